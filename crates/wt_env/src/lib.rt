@@ -1,0 +1,11 @@
+//! The data that every other crate speaks of: core types as data, the engine and its limits, the
+//! statuses of a run, and the streams that bytes come from and go to.
+#![tactic(auto)]
+
+pub mod limits;
+pub mod memory;
+pub mod seq;
+pub mod status;
+pub mod stream;
+pub mod text;
+pub mod types;
