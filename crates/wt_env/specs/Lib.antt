@@ -1,3 +1,4 @@
+pub mod Equality
 pub mod Limits
 pub mod Status
 pub mod Stream

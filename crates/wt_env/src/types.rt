@@ -158,3 +158,59 @@ pub struct WasmSubType {
 pub struct WasmRecGroup {
     pub types: Seq<WasmSubType>,
 }
+
+impl WasmRecGroup {
+    /// Whether the two are the same group, member by member. `==` answers the same.
+    #[tactic(auto, using(crate::specs::Equality::equality))]
+    pub fn is_same(&self, other: &WasmRecGroup) -> bool
+        ensures { IsTrue result ↔ (self.now ≡ other.now) }
+    {
+        self == other
+    }
+}
+
+#[cfg(test)]
+mod tests {
+    use super::*;
+    use crate::memory::OutOfMemory;
+    use std::alloc::Global;
+    use std::collections::HashMap;
+    use std::test::Fail;
+
+    /// The group of one final function type.
+    fn function(
+        alloc: Global,
+        given: WasmValType,
+        returned: WasmValType,
+    ) -> Result<WasmRecGroup, OutOfMemory> {
+        let func = WasmFuncType {
+            params: Seq::one(alloc, given)?,
+            results: Seq::one(alloc, returned)?,
+        };
+        let ty = WasmSubType {
+            is_final: true,
+            supertype: None,
+            composite_type: WasmCompositeInnerType::Func(func),
+        };
+        Ok(WasmRecGroup {
+            types: Seq::one(alloc, ty)?,
+        })
+    }
+
+    #[test]
+    fn groups_are_keys(rt: HostRuntime) -> Result<(), Fail> {
+        let group = function(rt.alloc(), WasmValType::I32, WasmValType::I64)?;
+        let copy = group.clone()?;
+        let other = function(rt.alloc(), WasmValType::I64, WasmValType::I32)?;
+        assert!(rt; group == copy);
+        assert!(rt; group.is_same(&copy));
+        assert!(rt; group != other);
+        assert!(rt; !group.is_same(&other));
+
+        let mut numbers = HashMap::new(rt.alloc());
+        numbers.insert(group, 7u32)?;
+        assert_eq!(rt; numbers.get(&copy).copied(), Some(7u32));
+        assert_eq!(rt; numbers.get(&other).copied(), None);
+        Ok(())
+    }
+}
