@@ -1,3 +1,6 @@
+pub mod Counts
 pub mod Limits
+pub mod MemoryStream
 pub mod Status
+pub mod StdStream
 pub mod Stream
