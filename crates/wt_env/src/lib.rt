@@ -4,8 +4,10 @@
 
 pub mod limits;
 pub mod memory;
+pub mod memory_stream;
 pub mod seq;
 pub mod status;
+pub mod std_stream;
 pub mod stream;
 pub mod text;
 pub mod types;
