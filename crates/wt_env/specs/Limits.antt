@@ -1,5 +1,5 @@
 -- The limits of an engine, and the engine as contracts see it.
-use Rattle.std.specs.Prelude.{ℕ, ◌≡◌, ◌^◌, ◌≤◌, Bool}
+use Rattle.std.specs.Prelude.{ℕ, ◌^◌, ◌≤◌, Bool}
 use Rattle.wt_env.specs.declared.limits.EngineLimits.{EngineLimits}
 
 -- none passes its greatest value
