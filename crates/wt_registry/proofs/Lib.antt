@@ -1,0 +1,5 @@
+pub mod FreeIndices
+pub mod Grows
+pub mod Kept
+pub mod Plain
+pub mod Registration

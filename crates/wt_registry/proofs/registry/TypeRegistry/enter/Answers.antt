@@ -1,0 +1,38 @@
+-- the registry before and after are those of the fields
+use Rattle.std.proofs.Common.{◌≡◌, ℕ, List, [], ◌∷◌, Result, Ok, Err, IfOk, sym, subst}
+use Rattle.wt_env.specs.declared.types.VMSharedTypeIndex.{VMSharedTypeIndex}
+use Rattle.wt_env.specs.declared.types.WasmSubType.{WasmSubType}
+use Rattle.wt_registry.specs.declared.refusal.BuildRefusal.{BuildRefusal}
+use Rattle.wt_registry.specs.declared.refusal.BuildRefusal.TheVariants as refusals
+use Rattle.wt_registry.specs.declared.refusal.Full.{Full}
+use Rattle.wt_registry.specs.Registry.{Registry, IsSound, describe, enter}
+use Rattle.wt_registry.specs.Entries.{registry_of, entered_as}
+use Rattle.wt_registry.proofs.Kept.{sound}
+use Rattle.wt_registry.proofs.registry.TypeRegistry.enter.Goals as goal
+
+abbrev Enters : Result (ℕ × VMSharedTypeIndex) BuildRefusal → Registry → Registry → List WasmSubType → Type 0
+Enters result new old types = IfOk result (λ entered. enter old (describe old.made types) ≡ Ok (entered_as entered.0 (describe old.made types) entered.1, new))
+
+abbrev IsFull : Result (ℕ × VMSharedTypeIndex) BuildRefusal → Registry → List WasmSubType → Type 0
+IsFull result old types = (full : Full) → result ≡ Err (refusals.Full full) → enter old (describe old.made types) ≡ Err full
+
+pub returns-in_err-one-clause-sound : goal.returns-in_err-one-clause-sound
+returns-in_err-one-clause-sound c =
+    subst IsSound c.self.view_is (sound c.self.inside.engine c.self.inside.entries.items c.self.inside.given c.self.invariant)
+
+pub returns-clause-ok : goal.returns-clause-ok
+returns-clause-ok c =
+    let old = registry_of c.self.inside.engine c.self.inside.entries.items c.self.inside.given in
+    let new = registry_of c.self.inside.engine c.enter_group.new.entries.items c.enter_group.new.given in
+    let one = subst (Enters c.enter_group.result new old) c.in_ok-one.ensures c.enter_group.ensures.ok in
+    subst (λ registry. Enters c.enter_group.result new registry (c.args.ty ∷ [])) c.self.view_is one
+
+pub returns-clause-full : goal.returns-clause-full
+returns-clause-full c =
+    let old = registry_of c.self.inside.engine c.self.inside.entries.items c.self.inside.given in
+    let one = subst (IsFull c.enter_group.result old) c.in_ok-one.ensures c.enter_group.ensures.full in
+    subst (λ registry. IsFull c.enter_group.result registry (c.args.ty ∷ [])) c.self.view_is one
+
+pub returns-clause-sound : goal.returns-clause-sound
+returns-clause-sound c =
+    sound c.self.inside.engine c.enter_group.new.entries.items c.enter_group.new.given c.enter_group.ensures.kept

@@ -1,0 +1,4 @@
+pub mod Entries
+pub mod Live
+pub mod Reach
+pub mod Registry

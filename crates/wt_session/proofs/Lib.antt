@@ -1,0 +1,3 @@
+pub mod HostTypes
+pub mod Kept
+pub mod Turns

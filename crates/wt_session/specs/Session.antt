@@ -1,0 +1,49 @@
+-- The session that the fields stand for, and what is kept true of them.
+use Rattle.std.specs.Prelude.{◌≡◌, ℕ, ◌+◌, ◌-◌, ◌≤◌, ◌⊎◌, List, [], ◌∷◌, ◌++◌, length, replicate, Result, Ok, Err}
+use Rattle.wt_env.specs.Limits.{EngineParts}
+use Rattle.wt_registry.specs.declared.refusal.Full.{Full}
+use Rattle.wt_registry.specs.Registry.{Made, Registry, Hold, Among, IsSound, Grows, empty_registry}
+use Rattle.wt_session.specs.declared.handle.Handle.{Handle}
+use Rattle.wt_session.specs.declared.handle.Handle.TheVariants as handle
+use Rattle.wt_session.specs.declared.reply.Refusal.TheVariants as refusal
+use Rattle.wt_session.specs.declared.reply.Reply.{Reply}
+use Rattle.wt_session.specs.declared.reply.Reply.TheVariants as reply
+use Rattle.wt_session.specs.World.{World, held_in, no_counts}
+
+-- a session of the engine in which nothing was done
+abbrev pub new_world : EngineParts → World
+new_world engine = record {
+  registry = empty_registry engine;
+  handles = replicate engine.limits.parties [];
+  counts = no_counts;
+}
+
+-- party 0 has these handles, and the others below the limit none so far
+abbrev pub world_of : Registry → List Handle → World
+world_of registry row = record {
+  registry = registry;
+  handles = row ∷ replicate (registry.engine.limits.parties - 1) [];
+  counts = no_counts;
+}
+
+-- the groups are those that the handles hold
+pub record IsKept (registry : Registry) (row : List Handle) (party : ℕ) : Type 0 where
+  pub sound : IsSound registry
+  pub party_0 : party ≡ 0
+  pub parties : 1 ≤ registry.engine.limits.parties
+  pub waiting : registry.waiting ≡ []
+  pub every : (group : Made) → Among group registry.made → Among group.number (held_in row)
+  pub only : (number : ℕ) → Among number (held_in row) → (group : Made) × Among group registry.made × (group.number ≡ number)
+
+-- the reply to a registration, the registry after it, and the party's handles after it
+abbrev pub row_after : List Handle → Registry → Result (Hold × Registry) Full → Reply × (Registry × List Handle)
+row_after row registry (Ok registered) =
+    (reply.TypeMade (length row) registered.0.index.0, (registered.1, row ++ handle.Type registered.0 ∷ []))
+row_after row registry (Err full) = (reply.Refused (refusal.Full full), (registry, row))
+
+-- After a registration the engine is the same and nothing more waits. Either nothing changed, or the party
+-- has one more handle, on a registered group, and no other group was added.
+pub record Extends (old : Registry) (row : List Handle) (new : Registry) (row' : List Handle) : Type 0 where
+  pub engine : new.engine ≡ old.engine
+  pub waiting : new.waiting ≡ old.waiting
+  pub change : ((new.made ≡ old.made) × (row' ≡ row)) ⊎ ((hold : Hold) × (row' ≡ row ++ handle.Type hold ∷ []) × Grows old new hold.number)

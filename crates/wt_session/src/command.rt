@@ -1,0 +1,32 @@
+//! What a party can ask of a session.
+
+use wt_env::seq::Seq;
+
+/// A value type as a command of the host names it.
+#[derive(Clone, Copy, Debug, PartialEq, Eq)]
+pub enum HostVal {
+    I32,
+    I64,
+    F32,
+    F64,
+    V128,
+}
+
+/// A type as a command of the host describes it.
+#[derive(Debug, PartialEq, Eq, Drop)]
+pub enum HostSub {
+    /// A final function with no supertype.
+    Func {
+        params: Seq<HostVal>,
+        results: Seq<HostVal>,
+    },
+}
+
+/// One command.
+#[derive(Debug, PartialEq, Eq, Drop)]
+pub enum Command {
+    /// Registers a type, and takes a handle on it.
+    HostType { sub: HostSub },
+    /// Tells which groups are registered.
+    Live,
+}

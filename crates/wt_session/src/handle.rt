@@ -1,0 +1,19 @@
+//! What a party holds.
+
+use wt_registry::registered_type::RegisteredType;
+
+/// What one of a party's handles stands for. Its number is its place among the party's handles.
+#[derive(Debug)]
+pub enum Handle {
+    /// A registered type, which the party holds.
+    Type(RegisteredType),
+}
+
+impl Handle {
+    /// Spends the handle at the moment at which its session is given up. It takes no memory.
+    pub(crate) fn forget(self) {
+        match self {
+            Handle::Type(hold) => hold.forget(),
+        }
+    }
+}

@@ -1,0 +1,10 @@
+//! Sessions: parties, their handles, their commands and the replies.
+#![tactic(auto)]
+
+pub mod command;
+pub mod handle;
+mod host;
+mod registration;
+pub mod reply;
+pub mod run;
+pub mod session;

@@ -1,0 +1,106 @@
+//! A session: an engine's registry, and what each party holds of it.
+
+use crate::command::Command;
+use crate::handle::Handle;
+use crate::registration::register_type;
+use crate::reply::Reply;
+use std::alloc::Global;
+use std::marker::Model;
+use wt_env::limits::Engine;
+use wt_env::memory::OutOfMemory;
+use wt_env::seq::Seq;
+use wt_registry::live::LiveGroup;
+use wt_registry::registered_type::PartyNumber;
+use wt_registry::registry::TypeRegistry;
+
+/// A session of an engine. It is never dropped: `close` spends it.
+pub struct Session {
+    alloc: Global,
+    registry: TypeRegistry,
+    // Each command is this party's so far.
+    party: PartyNumber,
+    handles: Vec<Handle>,
+}
+
+impl Model for Session {
+    ghost use Rattle.wt_session.specs.World.{World};
+    ghost use Rattle.wt_session.specs.Session.{world_of, IsKept};
+
+    ghost Value = { World };
+
+    ghost view = { λ session. world_of session.registry session.handles.items };
+
+    ghost invariant = { λ session. IsKept session.registry session.handles.items session.party };
+}
+
+impl Session {
+    ghost use Rattle.std.specs.Prelude.{◌≡◌, ◌≤◌, IfOk, OnErr};
+    ghost use Rattle.wt_registry.specs.Registry.{OneIndexPerTree};
+    ghost use Rattle.wt_registry.specs.Live.{live_of};
+    ghost use Rattle.wt_session.specs.World.{HasExactlyReached};
+    ghost use Rattle.wt_session.specs.Run.{step};
+    ghost use Rattle.wt_session.specs.Session.{new_world};
+
+    /// A session of the engine in which nothing was done. It takes no memory.
+    pub fn new(alloc: Global, engine: Engine) -> Session
+        // A condition for now: there is a party.
+        requires { 1 ≤ engine.limits.parties }
+        ensures { result ≡ new_world engine }
+    {
+        Session {
+            alloc,
+            registry: TypeRegistry::new(alloc, &engine),
+            party: PartyNumber::new(0),
+            handles: Vec::new(alloc),
+        }
+    }
+
+    /// The registered groups, in order of their registration numbers: exactly those that are reached from
+    /// what is held or waits for a sweep.
+    pub fn registered(&self) -> Result<Seq<LiveGroup>, OutOfMemory>
+        ensures groups { IfOk result (λ groups. groups ≡ live_of self.now.registry.made) }
+        ensures reached { HasExactlyReached self.now }
+        ensures one_index { OneIndexPerTree self.now.registry.made }
+    {
+        self.registry.live()
+    }
+
+    /// What is true of every session.
+    pub(crate) fn assure(&self)
+        ensures reached { HasExactlyReached self.now }
+        ensures one_index { OneIndexPerTree self.now.registry.made }
+    {
+        let _ = &self.registry;
+    }
+
+    /// One step of the session. Want of memory leaves all as before.
+    pub(crate) fn step(&mut self, command: &Command) -> Result<Reply, OutOfMemory>
+        ensures ok { IfOk result (λ reply. step self.old command.now ≡ (reply, self.new)) }
+        ensures err { OnErr result (self.new ≡ self.old) }
+    {
+        match command {
+            Command::HostType { sub } => register_type(
+                self.alloc,
+                &mut self.registry,
+                &mut self.party,
+                &mut self.handles,
+                sub,
+            ),
+            Command::Live => Ok(Reply::Live(self.registry.live()?)),
+        }
+    }
+
+    /// Gives the session up. It spends every handle, and takes no memory.
+    pub fn close(self) {
+        let Session {
+            alloc: _,
+            registry: _,
+            party: _,
+            handles: mut handles,
+        } = self;
+        while let Some(handle) = handles.pop() {
+            handle.forget();
+        }
+        handles.destroy_empty();
+    }
+}

@@ -1,0 +1,3 @@
+pub mod NumberFunction
+pub mod References
+pub mod Tree
