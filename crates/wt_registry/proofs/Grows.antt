@@ -5,10 +5,7 @@ use Rattle.wt_tree.specs.Tree.{Description, close, tree_eq}
 use Rattle.wt_registry.specs.declared.refusal.Full.{Full}
 use Rattle.wt_registry.specs.Registry.{Made, Registry, Among, trees, find_tree, new_group, with_group, added, found_or_added, enter, Grows}
 use Rattle.wt_registry.proofs.Registration.{found_passes}
-
-pub among_last : {A : Type 0} (xs : List A) (x : A) → Among x (xs ++ x ∷ [])
-among_last [] x = inl refl
-among_last (y ∷ ys) x = inr (among_last ys x)
+use Rattle.wt_registry.proofs.Kept.{among_last}
 
 abbrev ok_of : {A : Type 0} → A → Result A Full
 ok_of x = Ok x

@@ -10,12 +10,12 @@ use Rattle.wt_env.specs.declared.types.VMSharedTypeIndex.{VMSharedTypeIndex}
 use Rattle.wt_env.specs.declared.types.WasmSubType.{WasmSubType}
 use Rattle.wt_env.specs.declared.types.WasmRecGroup.{WasmRecGroup}
 use Rattle.wt_tree.specs.NumberFunction.{is_number_function}
-use Rattle.wt_tree.specs.Tree.{Tree, group, none}
+use Rattle.wt_tree.specs.Tree.{Tree, group, none, ClosedTree}
 use Rattle.wt_tree.specs.References.{number_group}
 use Rattle.wt_registry.proofs.Plain.{number_group-plain}
 use Rattle.wt_registry.specs.declared.entry.Entry.{Entry}
 use Rattle.wt_registry.specs.declared.entry.Given.{Given}
-use Rattle.wt_registry.specs.Registry.{Made, Registry, Among, trees, place_in, located_here, locate, member_here, sub_type_at, used, is_used, IsRising, OneIndexPerTree, NamesOlder, IsLocated, IsSound}
+use Rattle.wt_registry.specs.Registry.{Made, Registry, Among, trees, closed_tree, place_in, located_here, locate, member_here, sub_type_at, used, is_used, IsRising, OneIndexPerTree, NamesOlder, IsLocated, IsSound}
 use Rattle.wt_registry.specs.Entries.{made_of, made_by, IsPlain, Differ, AreApart, IsKept, registry_of}
 use Rattle.wt_registry.proofs.Registration.{all_among, all_push, among_map, tree_at-plain, none_passes}
 
@@ -196,3 +196,18 @@ borrowed-located (e ∷ es) i plain =
     let P : List VMSharedTypeIndex → List WasmSubType → Type 0 = λ indices types. is_some (member_here (place_in i indices) types (sub_type_at (made_by es) i)) ≡ is_some (located_here e.number (place_in i indices) (locate (made_by es) i)) in
     let plain_case : P (own.index ∷ []) (own.member ∷ []) = borrowed_here (own.index.0 == i.0) own.member e.number (sub_type_at (made_by es) i) (locate (made_by es) i) (borrowed-located es i plain.1) in
     subst (λ indices. P indices (number_group e.group.types)) (sym own.indices) (subst (P (own.index ∷ [])) (sym members) plain_case)
+
+-- ---- the closed tree of an index
+
+pub among_last : {A : Type 0} (xs : List A) (x : A) → Among x (xs ++ x ∷ [])
+among_last [] x = inl refl
+among_last (y ∷ ys) x = inr (among_last ys x)
+
+-- the index of an entry is that of a type whose tree is the entry's
+pub closed_tree-entry : (engine : EngineParts) (entries : List Entry) (given : Given) (entry : Entry) (index : VMSharedTypeIndex) → IsKept engine entries given → Among entry entries → slice_get entry.indices 0 ≡ Some index → closed_tree (made_by entries) index ≡ Some (record { tree = group entry.group.types none; place = 0 })
+closed_tree-entry engine entries given entry index kept at first =
+    let plain = all_among IsPlain entries entry kept.plain at in
+    let own = index_of entry plain index 0 first in
+    let name : (ℕ × ℕ) → ClosedTree = λ place. record { tree = trees (made_by entries) place.0; place = place.1 } in
+    ap (option_map name) (located-entry entries entry plain index kept.plain kept.apart at own.1)
+    ∙ ap (λ (t : Tree). Some (record { tree = t; place = 0 })) (tree_at-plain given.numbers entries kept.rising kept.plain entry at)

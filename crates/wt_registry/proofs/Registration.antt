@@ -16,8 +16,8 @@ use Rattle.wt_tree.specs.Tree.{Description, Tree, group, none, close_outer, clos
 use Rattle.wt_registry.specs.declared.entry.Entry.{Entry}
 use Rattle.wt_registry.specs.declared.entry.Given.{Given}
 use Rattle.wt_registry.specs.declared.refusal.Full.{Full}
-use Rattle.wt_registry.specs.Registry.{Made, Registry, Among, with_tree, trees_from, trees, place_in, located, locate, used, is_used, smallest_free, free_indices, describe, find_tree, new_group, given_with, with_group, full_of_groups, added, found_or_added, enter, IsRising, OneIndexPerTree, NamesOlder, IsLocated, IsSound}
-use Rattle.wt_registry.specs.Entries.{made_of, made_by, IsPlain, Differ, AreApart, IsKept, registry_of}
+use Rattle.wt_registry.specs.Registry.{Made, Registry, Among, with_tree, trees_from, trees, place_in, located, locate, used, is_used, smallest_free, free_indices, describe, tree_of, find_tree, new_group, given_with, with_group, full_of_groups, added, found_or_added, enter, IsRising, OneIndexPerTree, NamesOlder, IsLocated, IsSound}
+use Rattle.wt_registry.specs.Entries.{made_of, made_by, IsPlain, IsOneFunction, Differ, AreApart, IsKept, registry_of}
 use Rattle.wt_registry.proofs.Plain.{group_refs-plain, number_group-plain}
 
 -- ---- lists
@@ -122,8 +122,13 @@ find_tree-by_key top entries key rising plain =
     (λ entry at. key_test (made_by entries) entry key.types (tree_at-plain top entries rising plain entry at))
 
 -- the description of a new type, closed, is its tree
-tree_of-plain : (made : List Made) (ty : WasmSubType) → is_number_function ty ≡ true → close (trees made) (describe made (ty ∷ [])) ≡ group (ty ∷ []) none
+pub tree_of-plain : (made : List Made) (ty : WasmSubType) → is_number_function ty ≡ true → close (trees made) (describe made (ty ∷ [])) ≡ group (ty ∷ []) none
 tree_of-plain made ty plain = ap (close (trees made)) (describe-plain made ty plain)
+
+-- the same of a group of one such type
+pub tree_of-group : (entries : List Entry) (key : WasmRecGroup) → IsOneFunction key → tree_of (made_by entries) key.types ≡ group key.types none
+tree_of-group entries key one =
+    subst (λ types. tree_of (made_by entries) types ≡ group types none) (sym one.types) (tree_of-plain (made_by entries) one.member one.is_number_function)
 
 -- where the search by keys answers this, the registration does
 enter-by_key : (engine : EngineParts) (entries : List Entry) (given : Given) (ty : WasmSubType) (found : Option Entry) → IsKept engine entries given → is_number_function ty ≡ true → find (λ entry. rec_group_eq entry.group (record { types = ty ∷ [] })) entries ≡ found → enter (registry_of engine entries given) (describe (made_by entries) (ty ∷ [])) ≡ found_or_added (registry_of engine entries given) (describe (made_by entries) (ty ∷ [])) (option_map made_of found)

@@ -4,7 +4,7 @@ ghost use Rattle.std.specs.Prelude.{◌≡◌, ◌^◌, ◌<◌, true, Some, Non
 ghost use Rattle.std.specs.List.{find, list_any, AllByRecursion};
 ghost use Rattle.std.specs.Option.{option_copied};
 ghost use Rattle.wt_env.specs.Equality.{rec_group_eq};
-ghost use Rattle.wt_registry.specs.Registry.{used, is_used as is_used_number, smallest_free as smallest_free_number, place_in, sub_type_at, describe, enter};
+ghost use Rattle.wt_registry.specs.Registry.{used, is_used as is_used_number, smallest_free as smallest_free_number, place_in, sub_type_at, describe, enter, closed_tree, tree_of};
 ghost use Rattle.wt_registry.specs.Entries.{made_by, IsPlain, IsOneFunction, IsKept, registry_of, entered_as};
 ghost use Rattle.wt_registry.specs.Live.{live_of};
 
@@ -153,6 +153,8 @@ pub(crate) fn enter_new(
         ≡ Ok (entered_as entered.0 (describe (made_by entries.old.items) group.types) entered.1, registry_of engine.now entries.new.items given.new)) }
     ensures full { (full : _) → result ≡ Err (BuildRefusal.Full full)
         → enter (registry_of engine.now entries.old.items given.old) (describe (made_by entries.old.items) group.types) ≡ Err full }
+    ensures named { IfOk result (λ entered. closed_tree (made_by entries.new.items) entered.1
+        ≡ Some (record { tree = tree_of (made_by entries.old.items) group.types; place = 0 })) }
     ensures err { OnErr result ((entries.new.items ≡ entries.old.items) × (given.new ≡ given.old)) }
     ensures kept { IsKept engine.now entries.new.items given.new }
 {
@@ -190,6 +192,8 @@ pub(crate) fn enter_group(
         ≡ Ok (entered_as entered.0 (describe (made_by entries.old.items) group.types) entered.1, registry_of engine.now entries.new.items given.new)) }
     ensures full { (full : _) → result ≡ Err (BuildRefusal.Full full)
         → enter (registry_of engine.now entries.old.items given.old) (describe (made_by entries.old.items) group.types) ≡ Err full }
+    ensures named { IfOk result (λ entered. closed_tree (made_by entries.new.items) entered.1
+        ≡ Some (record { tree = tree_of (made_by entries.old.items) group.types; place = 0 })) }
     ensures err { OnErr result ((entries.new.items ≡ entries.old.items) × (given.new ≡ given.old)) }
     ensures kept { IsKept engine.now entries.new.items given.new }
 {

@@ -57,7 +57,7 @@ impl Model for RegisteredType {
 impl RegisteredType {
     ghost use Rattle.std.specs.Prelude.{◌≡◌, ◌<◌, [], ◌∷◌, IfOk, OnErr, Ok, Err, Some, true};
     ghost use Rattle.wt_tree.specs.NumberFunction.{is_number_function};
-    ghost use Rattle.wt_registry.specs.Registry.{IsSound, Grows, register};
+    ghost use Rattle.wt_registry.specs.Registry.{IsSound, Grows, register, closed_tree, tree_of};
 
     /// Registers a type for a party, and gives the party one hold of it. A type whose closed tree is that
     /// of a registered one is that one, with its index. Otherwise it gets the smallest free index.
@@ -75,6 +75,8 @@ impl RegisteredType {
 
         ensures ok { IfOk result (λ hold. register registry.old party.old ty ≡ Ok (hold, registry.new)) }
         ensures full { (full : _) → result ≡ Err (BuildRefusal.Full full) → register registry.old party.old ty ≡ Err full }
+        ensures named { IfOk result (λ hold. closed_tree registry.new.made hold.index
+            ≡ Some (record { tree = tree_of registry.old.made (ty ∷ []); place = 0 })) }
         ensures err { OnErr result (registry.new ≡ registry.old) }
         ensures grows { IfOk result (λ hold. Grows registry.old registry.new hold.number) }
         ensures party { party.new ≡ party.old }

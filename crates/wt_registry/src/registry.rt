@@ -32,10 +32,10 @@ impl Model for TypeRegistry {
 }
 
 impl TypeRegistry {
-    ghost use Rattle.std.specs.Prelude.{◌≡◌, ◌∷◌, [], ◌↔◌, IsTrue, IsSome, IfOk, OnErr, Ok, Err, true};
+    ghost use Rattle.std.specs.Prelude.{◌≡◌, ◌∷◌, [], ◌↔◌, IsTrue, IsSome, IfOk, OnErr, Ok, Err, Some, true};
     ghost use Rattle.std.specs.Option.{option_copied};
     ghost use Rattle.wt_tree.specs.NumberFunction.{is_number_function};
-    ghost use Rattle.wt_registry.specs.Registry.{IsSound, empty_registry, locate, sub_type_at, describe, enter};
+    ghost use Rattle.wt_registry.specs.Registry.{IsSound, empty_registry, locate, sub_type_at, describe, enter, closed_tree, tree_of};
     ghost use Rattle.wt_registry.specs.Entries.{entered_as};
     ghost use Rattle.wt_registry.specs.Live.{live_of};
 
@@ -95,6 +95,8 @@ impl TypeRegistry {
         ensures ok { IfOk result (λ entered. enter self.old (describe self.old.made (ty ∷ []))
             ≡ Ok (entered_as entered.0 (describe self.old.made (ty ∷ [])) entered.1, self.new)) }
         ensures full { (full : _) → result ≡ Err (BuildRefusal.Full full) → enter self.old (describe self.old.made (ty ∷ [])) ≡ Err full }
+        ensures named { IfOk result (λ entered. closed_tree self.new.made entered.1
+            ≡ Some (record { tree = tree_of self.old.made (ty ∷ []); place = 0 })) }
         ensures err { OnErr result (self.new ≡ self.old) }
         ensures sound { IsSound self.new }
     {

@@ -1,5 +1,5 @@
 -- the three answers are those of the definition, and a new entry keeps what is kept
-use Rattle.std.proofs.Common.{◌≡◌, ℕ, ◌+◌, ◌<◌, ◌≤◌, ◌^◌, List, [], ◌∷◌, ◌++◌, length, true, false, None, Ok, Err, sym, ap, subst, ◌∙◌, arith}
+use Rattle.std.proofs.Common.{◌≡◌, ℕ, ◌+◌, ◌<◌, ◌≤◌, ◌^◌, List, [], ◌∷◌, ◌++◌, length, true, false, None, Some, Ok, Err, refl, sym, ap, subst, ◌∙◌, arith}
 use Rattle.std.specs.List.{find}
 use Rattle.wt_env.specs.Equality.{rec_group_eq}
 use Rattle.wt_env.specs.Limits.{EngineParts}
@@ -10,10 +10,10 @@ use Rattle.wt_env.specs.declared.types.WasmSubType.{WasmSubType}
 use Rattle.wt_registry.specs.declared.entry.Entry.{Entry}
 use Rattle.wt_registry.specs.declared.entry.Given.{Given}
 use Rattle.wt_registry.specs.declared.refusal.Full.{Full}
-use Rattle.wt_registry.specs.Registry.{used, is_used, smallest_free, describe, enter}
+use Rattle.wt_registry.specs.Registry.{used, is_used, smallest_free, describe, enter, closed_tree, tree_of}
 use Rattle.wt_registry.specs.Entries.{made_by, IsOneFunction, IsKept, entered_as, registry_of}
-use Rattle.wt_registry.proofs.Registration.{enter-full, enter-added}
-use Rattle.wt_registry.proofs.Kept.{kept_push, length-used}
+use Rattle.wt_registry.proofs.Registration.{enter-full, enter-added, tree_of-group}
+use Rattle.wt_registry.proofs.Kept.{kept_push, length-used, among_last, closed_tree-entry}
 use Rattle.wt_registry.proofs.groups.enter_new.Goals as goal
 
 abbrev new_entry : ℕ → List WasmSubType → VMSharedTypeIndex → Entry
@@ -82,3 +82,18 @@ returns-clause-kept c =
     let within : length entries + 1 ≤ engine.limits.groups = omega (arith, lens, bound, c.if-bound-wanted.false) in
     subst (λ es. IsKept engine es (one_more given)) (sym c.in_ok-index.ensures.ok)
     (kept_answer engine entries given c.args.group index c.requires.plain c.requires.kept c.requires.new within c.in_ok-index.ensures.free)
+
+pub returns-clause-named : goal.returns-clause-named
+returns-clause-named c =
+    let entries = c.args.entries.now.items in
+    let engine = c.args.engine.now in
+    let given = c.args.given.now in
+    let index = c.in_ok-index.index in
+    let lens : c.len.result ≡ length entries = omega (arith, c.len.ensures, c.args.entries.now.ok.0) in
+    let bound : c.limits-bound.result.groups ≡ engine.limits.groups = ap (λ l. l.groups) c.limits-bound.ensures.value in
+    let within : length entries + 1 ≤ engine.limits.groups = omega (arith, lens, bound, c.if-bound-wanted.false) in
+    let entry = new_entry (given.numbers + 1) c.args.group.types index in
+    let kept = kept_answer engine entries given c.args.group index c.requires.plain c.requires.kept c.requires.new within c.in_ok-index.ensures.free in
+    ap (λ es. closed_tree (made_by es) index) c.in_ok-index.ensures.ok
+    ∙ closed_tree-entry engine (entries ++ entry ∷ []) (one_more given) entry index kept (among_last entries entry) refl
+    ∙ ap (λ t. Some (record { tree = t; place = 0 })) (sym (tree_of-group entries c.args.group c.requires.plain))

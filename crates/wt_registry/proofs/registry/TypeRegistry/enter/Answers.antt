@@ -1,12 +1,12 @@
 -- the registry before and after are those of the fields
-use Rattle.std.proofs.Common.{◌≡◌, ℕ, List, [], ◌∷◌, Result, Ok, Err, IfOk, sym, subst}
+use Rattle.std.proofs.Common.{◌≡◌, ℕ, List, [], ◌∷◌, Some, Result, Ok, Err, IfOk, sym, subst}
 use Rattle.wt_env.specs.declared.types.VMSharedTypeIndex.{VMSharedTypeIndex}
 use Rattle.wt_env.specs.declared.types.WasmSubType.{WasmSubType}
 use Rattle.wt_registry.specs.declared.refusal.BuildRefusal.{BuildRefusal}
 use Rattle.wt_registry.specs.declared.refusal.BuildRefusal.TheVariants as refusals
 use Rattle.wt_registry.specs.declared.refusal.Full.{Full}
-use Rattle.wt_registry.specs.Registry.{Registry, IsSound, describe, enter}
-use Rattle.wt_registry.specs.Entries.{registry_of, entered_as}
+use Rattle.wt_registry.specs.Registry.{Made, Registry, IsSound, describe, enter, closed_tree, tree_of}
+use Rattle.wt_registry.specs.Entries.{made_by, registry_of, entered_as}
 use Rattle.wt_registry.proofs.Kept.{sound}
 use Rattle.wt_registry.proofs.registry.TypeRegistry.enter.Goals as goal
 
@@ -15,6 +15,9 @@ Enters result new old types = IfOk result (λ entered. enter old (describe old.m
 
 abbrev IsFull : Result (ℕ × VMSharedTypeIndex) BuildRefusal → Registry → List WasmSubType → Type 0
 IsFull result old types = (full : Full) → result ≡ Err (refusals.Full full) → enter old (describe old.made types) ≡ Err full
+
+abbrev Names : Result (ℕ × VMSharedTypeIndex) BuildRefusal → List Made → List Made → List WasmSubType → Type 0
+Names result new old types = IfOk result (λ entered. closed_tree new entered.1 ≡ Some (record { tree = tree_of old types; place = 0 }))
 
 pub returns-in_err-one-clause-sound : goal.returns-in_err-one-clause-sound
 returns-in_err-one-clause-sound c =
@@ -36,3 +39,10 @@ returns-clause-full c =
 pub returns-clause-sound : goal.returns-clause-sound
 returns-clause-sound c =
     sound c.self.inside.engine c.enter_group.new.entries.items c.enter_group.new.given c.enter_group.ensures.kept
+
+pub returns-clause-named : goal.returns-clause-named
+returns-clause-named c =
+    let old = made_by c.self.inside.entries.items in
+    let new = made_by c.enter_group.new.entries.items in
+    let one = subst (Names c.enter_group.result new old) c.in_ok-one.ensures c.enter_group.ensures.named in
+    subst (λ (registry : Registry). Names c.enter_group.result new registry.made (c.args.ty ∷ [])) c.self.view_is one
