@@ -1,0 +1,4 @@
+pub mod Decode
+pub mod Program
+pub mod Text
+pub mod Words

@@ -1,0 +1,60 @@
+-- The reply lines. Numbers are decimal, and each line ends with a line feed.
+use Rattle.std.specs.Prelude.{ℕ, List, [], ◌∷◌, ◌++◌, length, codes}
+use Rattle.std.specs.Fmt.{decimal}
+use Rattle.std.specs.List.{flat_map}
+use Rattle.wt_env.specs.declared.limits.Limit.{Limit}
+use Rattle.wt_env.specs.declared.limits.Limit.TheVariants.{Parties, Groups, Types, References, Ever, Holds}
+use Rattle.wt_registry.specs.declared.live.LiveGroup.{LiveGroup}
+use Rattle.wt_registry.specs.declared.refusal.Full.{Full}
+use Rattle.wt_session.specs.declared.reply.Refusal.{Refusal}
+use Rattle.wt_session.specs.declared.reply.Refusal.TheVariants as refusals
+use Rattle.wt_session.specs.declared.reply.Reply.{Reply}
+use Rattle.wt_session.specs.declared.reply.Reply.TheVariants.{TypeMade, Live, Refused}
+
+abbrev pub line_feed : List ℕ
+line_feed = 10 ∷ []
+
+abbrev pub limit_word : Limit → List ℕ
+limit_word Parties = codes "parties"
+limit_word Groups = codes "groups"
+limit_word Types = codes "types"
+limit_word References = codes "references"
+limit_word Ever = codes "ever"
+limit_word Holds = codes "holds"
+
+-- an index after a blank
+abbrev pub later_index_text : ℕ → List ℕ
+later_index_text index = codes " " ++ decimal index
+
+-- indices, parted by one blank
+abbrev pub indices_text : List ℕ → List ℕ
+indices_text [] = []
+indices_text (first ∷ rest) = decimal first ++ flat_map later_index_text rest
+
+-- a group after a blank, as ` #2[1 2]`
+abbrev pub group_text : LiveGroup → List ℕ
+group_text group = codes " #" ++ decimal group.number ++ codes "[" ++ indices_text group.indices ++ codes "]"
+
+-- `Full: groups 1, wanted 2`
+abbrev pub full_text : Full → List ℕ
+full_text full = codes "Full: " ++ limit_word full.limit ++ codes " " ++ decimal full.bound ++ codes ", wanted " ++ decimal full.wanted
+
+-- the code of a refusal, and what was refused
+abbrev pub refusal_text : Refusal → List ℕ
+refusal_text (refusals.Full full) = full_text full
+
+abbrev pub live_line : List LiveGroup → List ℕ
+live_line groups = codes "live " ++ decimal (length groups) ++ flat_map group_text groups ++ line_feed
+
+abbrev pub refused_line : Refusal → List ℕ
+refused_line refusal = codes "refused " ++ refusal_text refusal ++ line_feed
+
+-- the line of a reply
+abbrev pub line_of : Reply → List ℕ
+line_of (TypeMade handle index) = codes "type " ++ decimal handle ++ codes " index " ++ decimal index ++ line_feed
+line_of (Live groups) = live_line groups
+line_of (Refused refusal) = refused_line refusal
+
+-- the lines of all replies, in order
+abbrev pub text_of : List Reply → List ℕ
+text_of replies = flat_map line_of replies

@@ -1,0 +1,270 @@
+//! Commands from JSON: which commands a value stands for, or which element of it is none. It rests on
+//! what `serde_json` says of looking into a value.
+
+ghost use Rattle.std.specs.Prelude.{◌≡◌, Ok, Err, IfOk};
+ghost use Rattle.serde_json.specs.View.{view, items_view};
+ghost use Rattle.wt_program.specs.Decode.{key_count, val_named, decode_val, vals_of, decode_vals, func_from, decode_func, decode_sub, decode_live, decode_type, decode_command, decode_commands, decode};
+ghost use Rattle.wt_program.specs.declared.decode.DecodeError.{DecodeError};
+
+use serde_json::Value;
+use std::alloc::{AllocFailed, Global};
+use std::error::Error;
+use std::fmt;
+use wt_env::memory::OutOfMemory;
+use wt_env::seq::Seq;
+use wt_session::command::{Command, HostSub, HostVal};
+
+/// Why no commands were decoded.
+#[derive(Clone, Copy, Debug, PartialEq, Eq)]
+pub enum DecodeError {
+    /// The first element of the list that is no command, by its place from 1; with 0, the value is no
+    /// list.
+    BadCommand(u64),
+    /// Memory ran out.
+    OutOfMemory,
+}
+
+impl fmt::Display for DecodeError {
+    fn fmt<W: fmt::Write>(&self, f: &mut fmt::Formatter<W>) -> fmt::Result {
+        match self {
+            DecodeError::BadCommand(0) => write!(f, "not a list of commands"),
+            DecodeError::BadCommand(place) => write!(f, "element {place} is not a command"),
+            DecodeError::OutOfMemory => write!(f, "out of memory"),
+        }
+    }
+}
+
+impl Error for DecodeError {}
+
+impl From<OutOfMemory> for DecodeError {
+    ghost use Rattle.std.specs.Prelude.{◌≡◌};
+    ghost use Rattle.wt_program.specs.declared.decode.DecodeError.TheVariants as errors;
+
+    ghost from_gives = { λ _ error. error ≡ errors.OutOfMemory };
+
+    fn from(_error: OutOfMemory) -> DecodeError {
+        DecodeError::OutOfMemory
+    }
+}
+
+impl<T: Drop> From<AllocFailed<T>> for DecodeError {
+    ghost use Rattle.std.specs.Prelude.{◌≡◌};
+    ghost use Rattle.wt_program.specs.declared.decode.DecodeError.TheVariants as errors;
+
+    ghost from_gives = { λ _ error. error ≡ errors.OutOfMemory };
+
+    fn from(_error: AllocFailed<T>) -> DecodeError {
+        DecodeError::OutOfMemory
+    }
+}
+
+/// The commands of a list, in order. `BadCommand` tells the place of the first element that is no
+/// command, from 1, or with 0 that the value is no list.
+pub fn decode(alloc: Global, value: &Value) -> Result<Vec<Command>, DecodeError>
+    ensures ok { IfOk result (λ commands. decode (view value.now) ≡ Ok commands.items) }
+    ensures bad { (k : _) → result ≡ Err (DecodeError.BadCommand k)
+        → decode (view value.now) ≡ Err k }
+{
+    match value.as_array() {
+        Some(list) => decode_commands(alloc, list.as_slice()),
+        None => Err(DecodeError::BadCommand(0)),
+    }
+}
+
+/// The commands that elements stand for, whose places begin at 1.
+fn decode_commands(alloc: Global, list: &[Value]) -> Result<Vec<Command>, DecodeError>
+    ensures ok { IfOk result (λ commands.
+        decode_commands 1 (items_view list.now) ≡ Ok commands.items) }
+    ensures bad { (k : _) → result ≡ Err (DecodeError.BadCommand k)
+        → decode_commands 1 (items_view list.now) ≡ Err k }
+{
+    let mut commands = Vec::new(alloc);
+    for (index, value) in list.iter().enumerate() {
+        match decode_command(alloc, value)? {
+            Some(command) => commands.push(command)?,
+            None => return Err(DecodeError::BadCommand(index as u64 + 1)),
+        }
+    }
+    Ok(commands)
+}
+
+/// A command: an object whose key `do` says which.
+fn decode_command(alloc: Global, value: &Value) -> Result<Option<Command>, OutOfMemory>
+    ensures { IfOk result (λ command. command ≡ decode_command (view value.now)) }
+{
+    match value.get("do").and_then(Value::as_str) {
+        Some("live") => Ok(decode_live(value)),
+        Some("type") => decode_type(alloc, value),
+        _ => Ok(None),
+    }
+}
+
+/// `{"do": "live"}`.
+fn decode_live(value: &Value) -> Option<Command>
+    ensures { result ≡ decode_live (view value.now) }
+{
+    (key_count(value) == 1).then_some(Command::Live)
+}
+
+/// `{"do": "type", "sub": a type}`.
+fn decode_type(alloc: Global, value: &Value) -> Result<Option<Command>, OutOfMemory>
+    ensures { IfOk result (λ command. command ≡ decode_type (view value.now)) }
+{
+    if key_count(value) != 2 {
+        return Ok(None);
+    }
+    let Some(sub) = value.get("sub") else {
+        return Ok(None);
+    };
+    Ok(decode_sub(alloc, sub)?.map(|sub| Command::HostType { sub }))
+}
+
+/// A type: `{"func": [parameters, results]}`.
+fn decode_sub(alloc: Global, value: &Value) -> Result<Option<HostSub>, OutOfMemory>
+    ensures { IfOk result (λ sub. sub ≡ decode_sub (view value.now)) }
+{
+    if key_count(value) != 1 {
+        return Ok(None);
+    }
+    match value.get("func") {
+        Some(func) => decode_func(alloc, func),
+        None => Ok(None),
+    }
+}
+
+/// A function type: `[parameters, results]`.
+fn decode_func(alloc: Global, value: &Value) -> Result<Option<HostSub>, OutOfMemory>
+    ensures { IfOk result (λ sub. sub ≡ decode_func (view value.now)) }
+{
+    let Some(list) = value.as_array() else {
+        return Ok(None);
+    };
+    if list.len() != 2 {
+        return Ok(None);
+    }
+    func_from(alloc, &list[0], &list[1])
+}
+
+/// The function type with two lists of value types, as parameters and as results.
+fn func_from(alloc: Global, params: &Value, results: &Value) -> Result<Option<HostSub>, OutOfMemory>
+    ensures { IfOk result (λ sub. sub ≡ func_from (view params.now) (view results.now)) }
+{
+    let Some(params) = decode_vals(alloc, params)? else {
+        return Ok(None);
+    };
+    let Some(results) = decode_vals(alloc, results)? else {
+        return Ok(None);
+    };
+    Ok(Some(HostSub::Func { params, results }))
+}
+
+/// A list of value types.
+fn decode_vals(alloc: Global, value: &Value) -> Result<Option<Seq<HostVal>>, OutOfMemory>
+    ensures { IfOk result (λ vals. vals ≡ decode_vals (view value.now)) }
+{
+    match value.as_array() {
+        Some(list) => vals_of(alloc, list.as_slice()),
+        None => Ok(None),
+    }
+}
+
+/// The value types that elements stand for, if each is one.
+fn vals_of(alloc: Global, list: &[Value]) -> Result<Option<Seq<HostVal>>, OutOfMemory>
+    ensures { IfOk result (λ vals. vals ≡ vals_of (items_view list.now)) }
+{
+    let mut vals = Seq::new(alloc);
+    for value in list {
+        match decode_val(value) {
+            Some(val) => vals.push(val)?,
+            None => return Ok(None),
+        }
+    }
+    Ok(Some(vals))
+}
+
+/// A value type: the string of its name.
+fn decode_val(value: &Value) -> Option<HostVal>
+    ensures { result ≡ decode_val (view value.now) }
+{
+    value.as_str().and_then(val_named)
+}
+
+/// The value type with a name.
+fn val_named(name: &str) -> Option<HostVal>
+    ensures { result ≡ val_named name.now }
+{
+    match name {
+        "i32" => Some(HostVal::I32),
+        "i64" => Some(HostVal::I64),
+        "f32" => Some(HostVal::F32),
+        "f64" => Some(HostVal::F64),
+        "v128" => Some(HostVal::V128),
+        _ => None,
+    }
+}
+
+/// How many members an object has; none where the value is no object.
+fn key_count(value: &Value) -> usize
+    ensures { result ≡ key_count (view value.now) }
+{
+    match value.as_object() {
+        Some(members) => members.len(),
+        None => 0,
+    }
+}
+
+#[cfg(test)]
+mod tests {
+    use super::*;
+    use std::test::Fail;
+
+    #[test]
+    fn decodes_lists(rt: HostRuntime) -> Result<(), Fail> {
+        let alloc = rt.alloc();
+        let func = Command::HostType {
+            sub: HostSub::Func {
+                params: Seq::one(alloc, HostVal::I32)?,
+                results: Seq::one(alloc, HostVal::I64)?,
+            },
+        };
+        let rows = [
+            ("[]", Ok(Vec::new(alloc))),
+            ("[{\"do\":\"live\"}]", Ok(vec![in alloc; Command::Live]?)),
+            (
+                "[{\"do\":\"type\",\"sub\":{\"func\":[[\"i32\"],[\"i64\"]]}}]",
+                Ok(vec![in alloc; func]?),
+            ),
+            ("{}", Err(DecodeError::BadCommand(0))),
+            (
+                "[{\"do\":\"live\"},{\"do\":\"live\",\"x\":1}]",
+                Err(DecodeError::BadCommand(2)),
+            ),
+            (
+                "[{\"do\":\"type\",\"sub\":{\"func\":[[\"i32\"]]}}]",
+                Err(DecodeError::BadCommand(1)),
+            ),
+        ];
+        for (text, want) in rows {
+            let value = Value::from_str(alloc, text)?;
+            assert_eq!(rt; decode(alloc, &value), want, "at {text}");
+        }
+        Ok(())
+    }
+
+    #[test]
+    fn reads_each_name(rt: HostRuntime) -> Result<(), Fail> {
+        let rows = [
+            ("i32", Some(HostVal::I32)),
+            ("i64", Some(HostVal::I64)),
+            ("f32", Some(HostVal::F32)),
+            ("f64", Some(HostVal::F64)),
+            ("v128", Some(HostVal::V128)),
+            ("I32", None),
+            ("", None),
+        ];
+        for (name, want) in rows {
+            assert_eq!(rt; val_named(name), want, "at {name}");
+        }
+        Ok(())
+    }
+}

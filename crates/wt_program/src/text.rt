@@ -1,0 +1,146 @@
+//! The reply lines.
+
+ghost use Rattle.std.specs.Prelude.{◌≡◌, ◌++◌, IfOk, OnOk, string_bytes};
+ghost use Rattle.wt_program.specs.Text.{limit_word, indices_text, group_text, live_line, full_text, refused_line, line_of, text_of};
+
+use std::alloc::Global;
+use wt_env::limits::Limit;
+use wt_env::memory::OutOfMemory;
+use wt_registry::live::LiveGroup;
+use wt_registry::refusal::Full;
+use wt_session::reply::{Refusal, Reply};
+
+fn limit_word(limit: Limit) -> &'static str
+    ensures { result.now ≡ limit_word limit }
+{
+    match limit {
+        Limit::Parties => "parties",
+        Limit::Groups => "groups",
+        Limit::Types => "types",
+        Limit::References => "references",
+        Limit::Ever => "ever",
+        Limit::Holds => "holds",
+    }
+}
+
+fn push_made(text: &mut String, handle: u64, index: u32) -> Result<(), OutOfMemory>
+    ensures { OnOk result (string_bytes text.new ≡ string_bytes text.old ++ line_of (Reply.TypeMade handle index)) }
+{
+    writeln!(text, "type {handle} index {index}")?;
+    Ok(())
+}
+
+fn push_full(text: &mut String, full: Full) -> Result<(), OutOfMemory>
+    ensures { OnOk result (string_bytes text.new ≡ string_bytes text.old ++ full_text full) }
+{
+    let limit = limit_word(full.limit);
+    let Full { bound, wanted, .. } = full;
+    write!(text, "Full: {limit} {bound}, wanted {wanted}")?;
+    Ok(())
+}
+
+fn push_indices(text: &mut String, indices: &[u32]) -> Result<(), OutOfMemory>
+    ensures { OnOk result (string_bytes text.new ≡ string_bytes text.old ++ indices_text indices.now) }
+{
+    let Some((first, rest)) = indices.split_first() else {
+        return Ok(());
+    };
+    write!(text, "{first}")?;
+    for index in rest {
+        write!(text, " {index}")?;
+    }
+    Ok(())
+}
+
+fn push_group(text: &mut String, group: &LiveGroup) -> Result<(), OutOfMemory>
+    ensures { OnOk result (string_bytes text.new ≡ string_bytes text.old ++ group_text group.now) }
+{
+    write!(text, " #{}[", group.number)?;
+    push_indices(text, group.indices.as_slice())?;
+    text.push_str("]")?;
+    Ok(())
+}
+
+fn push_live(text: &mut String, groups: &[LiveGroup]) -> Result<(), OutOfMemory>
+    ensures { OnOk result (string_bytes text.new ≡ string_bytes text.old ++ live_line groups.now) }
+{
+    write!(text, "live {}", groups.len())?;
+    for group in groups {
+        push_group(text, group)?;
+    }
+    text.push_str("\n")?;
+    Ok(())
+}
+
+fn push_refused(text: &mut String, refusal: &Refusal) -> Result<(), OutOfMemory>
+    ensures { OnOk result (string_bytes text.new ≡ string_bytes text.old ++ refused_line refusal.now) }
+{
+    text.push_str("refused ")?;
+    match refusal {
+        Refusal::Full(full) => push_full(text, *full)?,
+    }
+    text.push_str("\n")?;
+    Ok(())
+}
+
+/// Adds the line of a reply.
+fn push_line(text: &mut String, reply: &Reply) -> Result<(), OutOfMemory>
+    ensures { OnOk result (string_bytes text.new ≡ string_bytes text.old ++ line_of reply.now) }
+{
+    match reply {
+        Reply::TypeMade { handle, index } => push_made(text, *handle, *index),
+        Reply::Live(groups) => push_live(text, groups.as_slice()),
+        Reply::Refused(refusal) => push_refused(text, refusal),
+    }
+}
+
+/// The lines of all replies, in order.
+pub fn text(alloc: Global, replies: &[Reply]) -> Result<String, OutOfMemory>
+    ensures { IfOk result (λ text. string_bytes text ≡ text_of replies.now) }
+{
+    let mut text = String::new(alloc);
+    for reply in replies {
+        push_line(&mut text, reply)?;
+    }
+    Ok(text)
+}
+
+#[cfg(test)]
+mod tests {
+    use super::*;
+    use std::test::Fail;
+    use wt_env::seq::Seq;
+
+    #[test]
+    fn writes_one_line_for_each_reply(rt: HostRuntime) -> Result<(), Fail> {
+        let alloc = rt.alloc();
+        let first = LiveGroup {
+            number: 1,
+            indices: Seq::from_vec(vec![in alloc; 0]?),
+        };
+        let second = LiveGroup {
+            number: 2,
+            indices: Seq::from_vec(vec![in alloc; 1, 2]?),
+        };
+        let groups = vec![in alloc; first, second]?;
+        let full = Full {
+            limit: Limit::Groups,
+            bound: 1,
+            wanted: 2,
+        };
+        let replies = vec![in alloc;
+            Reply::TypeMade {
+                handle: 0,
+                index: 0
+            },
+            Reply::Live(Seq::from_vec(groups)),
+            Reply::Refused(Refusal::Full(full)),
+        ]?;
+        let lines = text(alloc, replies.as_slice())?;
+        assert_eq!(rt;
+            lines.as_str(),
+            "type 0 index 0\nlive 2 #1[0] #2[1 2]\nrefused Full: groups 1, wanted 2\n"
+        );
+        Ok(())
+    }
+}
