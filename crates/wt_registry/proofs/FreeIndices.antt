@@ -1,11 +1,11 @@
 -- The search for the smallest number that isn't in a list: among the first length + 1 numbers one isn't.
-use Rattle.std.proofs.Common.{◌≡◌, ◌≢◌, ℕ, zero, suc, ◌+◌, ◌-◌, ◌<◌, ◌≤◌, ◌==◌, eqb, Bool, true, false, not, cond, ◌||◌, List, [], ◌∷◌, ◌++◌, length, map, refl, ap, sym, ◌∙◌, subst, arith, add-one}
-use Rattle.std.specs.List.{list_any, flat_map, filter}
+use Rattle.std.proofs.Common.{◌≡◌, ◌≢◌, ℕ, zero, suc, ◌+◌, ◌-◌, ◌<◌, ◌≤◌, ◌==◌, Bool, true, false, not, cond, ◌||◌, List, [], ◌∷◌, length, map, refl, ap, sym, ◌∙◌, arith}
+use Rattle.std.specs.List.{list_any, filter}
 use Rattle.std.proofs.lemmas.Bool.{false≢true}
 use Rattle.std.proofs.lemmas.List.Folds.{list_any-append}
 use Rattle.wt_env.specs.declared.types.VMSharedTypeIndex.{VMSharedTypeIndex}
-use Rattle.wt_registry.specs.Registry.{Made, used, is_used, first_free, smallest_free}
-use Rattle.wt_registry.specs.Entries.{made_of, made_by}
+use Rattle.wt_registry.specs.Registry.{used, is_used, first_free}
+use Rattle.wt_registry.specs.Entries.{made_by}
 use Rattle.wt_registry.specs.declared.entry.Entry.{Entry}
 
 abbrev without : ℕ → List ℕ → List ℕ

@@ -1,9 +1,8 @@
 -- What is kept true of the entries: that it makes the registry sound, and that a new entry keeps it.
-use Rattle.std.proofs.Common.{◌≡◌, ◌≢◌, ℕ, zero, suc, ◌+◌, ◌<◌, ◌≤◌, ◌==◌, ◌⊎◌, ◌↔◌, inl, inr, Bool, true, false, ◌||◌, cond, List, [], ◌∷◌, ◌++◌, length, map, Option, Some, None, is_some, option_map, slice_get, refl, sym, ap, subst, ◌∙◌, arith, length-append}
-use Rattle.std.specs.List.{AllByRecursion, flat_map, list_any, position_from, find}
+use Rattle.std.proofs.Common.{◌≡◌, ◌≢◌, ℕ, zero, suc, ◌+◌, ◌≤◌, ◌==◌, ◌⊎◌, ◌↔◌, inl, inr, Bool, true, false, ◌||◌, cond, List, [], ◌∷◌, ◌++◌, length, map, Option, Some, None, is_some, option_map, slice_get, nat_lt, refl, sym, ap, subst, ◌∙◌, arith, length-append}
+use Rattle.std.specs.List.{AllByRecursion, find}
 use Rattle.std.proofs.lemmas.Bool.{false≢true, cond-true, cond-false, false_from_ne_true}
-use Rattle.std.proofs.lemmas.List.{length-map, map-append}
-use Rattle.std.proofs.lemmas.List.Folds.{list_any-append}
+use Rattle.std.proofs.lemmas.List.{map-append}
 use Rattle.wt_env.specs.Limits.{EngineParts}
 use Rattle.wt_env.specs.Equality.{rec_group_eq, rec_group_eq-refl}
 use Rattle.wt_env.specs.declared.types.VMSharedTypeIndex.{VMSharedTypeIndex}
@@ -15,9 +14,12 @@ use Rattle.wt_tree.specs.References.{number_group}
 use Rattle.wt_registry.proofs.Plain.{number_group-plain}
 use Rattle.wt_registry.specs.declared.entry.Entry.{Entry}
 use Rattle.wt_registry.specs.declared.entry.Given.{Given}
-use Rattle.wt_registry.specs.Registry.{Made, Registry, Among, trees, closed_tree, place_in, located_here, locate, member_here, sub_type_at, used, is_used, IsRising, OneIndexPerTree, NamesOlder, IsLocated, IsSound}
-use Rattle.wt_registry.specs.Entries.{made_of, made_by, IsPlain, Differ, AreApart, IsKept, registry_of}
-use Rattle.wt_registry.proofs.Registration.{all_among, all_push, among_map, tree_at-plain, none_passes}
+use Rattle.wt_registry.specs.declared.groups.Groups.{Groups}
+use Rattle.wt_registry.specs.declared.refusal.Full.{Full}
+use Rattle.wt_registry.specs.Counts.{entries_without}
+use Rattle.wt_registry.specs.Registry.{Made, Among, trees, closed_tree, place_in, located_here, locate, member_here, sub_type_at, used, is_used, first_full, IsRising, OneIndexPerTree, NamesOlder, IsLocated, IsSound}
+use Rattle.wt_registry.specs.Entries.{made_of, made_by, IsPlain, Differ, AreApart, IsKept, AreKept, registry_at, wanted_at}
+use Rattle.wt_registry.proofs.Registration.{all_among, all_push, among_map, tree_at-plain, none_passes, new_entry, one_more}
 
 -- ---- sound
 
@@ -115,12 +117,13 @@ is_located engine entries given kept a j i at ai =
     located-entry entries ea.0 pa i kept.plain kept.apart ea.1 ia.1
     ∙ (λ t. Some ((sym (ap (λ (m : Made). m.number) ea.2)) t, (sym ia.0) t))
 
-pub sound : (engine : EngineParts) (entries : List Entry) (given : Given) → IsKept engine entries given → IsSound (registry_of engine entries given)
-sound engine entries given kept = record {
-  rising = kept.rising;
-  one_index = one_index engine entries given kept;
-  names_older = names_older engine entries given kept;
-  is_located = is_located engine entries given kept;
+pub sound : (engine : EngineParts) (groups : Groups) → AreKept engine groups → IsSound (registry_at engine groups)
+sound engine groups kept = record {
+  rising = kept.entries.rising;
+  one_index = one_index engine groups.entries.items groups.given kept.entries;
+  names_older = names_older engine groups.entries.items groups.given kept.entries;
+  is_located = is_located engine groups.entries.items groups.given kept.entries;
+  are_standing = kept.counts;
 }
 
 -- ---- kept by a new entry
@@ -158,28 +161,79 @@ differ_all (e ∷ es) entry index one plain new free =
       differ_all es entry index one plain.1 new.1 (later_free ((plain.0).index) index (used (made_by es)) unused),
     )
 
-pub kept_push : (engine : EngineParts) (entries : List Entry) (given : Given) (ty : WasmSubType) (index : VMSharedTypeIndex) → IsKept engine entries given → is_number_function ty ≡ true → find (λ (e : Entry). rec_group_eq e.group (record { types = ty ∷ [] })) entries ≡ None → length entries + 1 ≤ engine.limits.groups → is_used (used (made_by entries)) index.0 ≡ false → IsKept engine (entries ++ record { number = given.numbers + 1; group = record { types = ty ∷ [] }; outer = []; indices = index ∷ [] } ∷ []) (record { numbers = given.numbers + 1; types = given.types + 1; references = given.references })
-kept_push engine entries given ty index kept plain none_found within free =
+within_bound : (bound wanted : ℕ) → nat_lt bound wanted ≡ false → wanted ≤ bound
+within_bound bound wanted h = grind arith
+
+pub kept_push : (engine : EngineParts) (entries : List Entry) (given : Given) (ty : WasmSubType) (index : VMSharedTypeIndex) → IsKept engine entries given → is_number_function ty ≡ true → find (λ (e : Entry). rec_group_eq e.group (record { types = ty ∷ [] })) entries ≡ None → first_full (wanted_at engine.limits (length entries) given.numbers) ≡ None → is_used (used (made_by entries)) index.0 ≡ false → IsKept engine (entries ++ new_entry (given.numbers + 1) (ty ∷ []) index ∷ []) (one_more given)
+kept_push engine entries given ty index kept plain none_found passes free =
     let key : WasmRecGroup = record { types = ty ∷ [] } in
-    let entry : Entry = record { number = given.numbers + 1; group = key; outer = []; indices = index ∷ [] } in
+    let entry : Entry = new_entry (given.numbers + 1) (ty ∷ []) index in
     let own : IsPlain entry = record { member = ty; index = index; is_number_function = plain; types = refl; outer = refl; indices = refl } in
     let more : length (entries ++ entry ∷ []) ≡ length entries + 1 = length-append entries (entry ∷ []) in
+    let bounds = none_passes (λ (full : Full). nat_lt full.bound full.wanted) (wanted_at engine.limits (length entries) given.numbers) passes in
     record {
-      within = omega (arith, within, more);
-      numbers = ap (λ n. n + 1) kept.numbers ∙ sym more;
-      types = ap (λ n. n + 1) kept.types ∙ sym more;
+      within = omega (arith, within_bound engine.limits.groups (length entries + 1) bounds.0, more);
+      types_within = omega (arith, within_bound engine.limits.types (length entries + 1) bounds.1.0, more);
+      ever = within_bound engine.limits.ever (given.numbers + 1) bounds.1.1.0;
+      types = ap (λ n. n + 1) kept.types;
       references = kept.references;
       rising = subst (λ made. IsRising 0 made (given.numbers + 1)) (sym (map-append made_of entries (entry ∷ []))) (rising_push 0 given.numbers (made_by entries) (made_of entry) kept.rising refl);
       plain = all_push IsPlain entries entry kept.plain own;
       apart = apart_push entries entry kept.apart (differ_all entries entry index refl kept.plain (none_passes (λ (e : Entry). rec_group_eq e.group key) entries none_found) free);
     }
 
--- ---- how many indices are in use
+-- ---- kept without an entry
 
-pub length-used : (entries : List Entry) → AllByRecursion IsPlain entries → length (used (made_by entries)) ≡ length entries
-length-used [] plain = refl
-length-used (e ∷ es) plain =
-    ap (λ is. length (map (λ (i : VMSharedTypeIndex). i.0) is ++ used (made_by es))) ((plain.0).indices) ∙ ap suc (length-used es plain.1)
+rising_lower : (low low' top : ℕ) (made : List Made) → low ≤ low' → IsRising low' made top → IsRising low made top
+rising_lower low low' top [] h rising = omega (arith, rising)
+rising_lower low low' top (m ∷ ms) h rising = (omega (arith, rising.0), rising.1)
+
+rising_without_here : (b : Bool) (low top number : ℕ) (e : Entry) (es : List Entry) → IsRising low (made_by (e ∷ es)) top → IsRising e.number (made_by (entries_without number es)) top → IsRising low (made_by (cond b es (e ∷ entries_without number es))) top
+rising_without_here true low top number e es rising rest = rising_lower low e.number top (made_by es) (omega (arith, rising.0)) rising.1
+rising_without_here false low top number e es rising rest = (rising.0, rest)
+
+rising_without : (low top number : ℕ) (entries : List Entry) → IsRising low (made_by entries) top → IsRising low (made_by (entries_without number entries)) top
+rising_without low top number [] rising = rising
+rising_without low top number (e ∷ es) rising =
+    rising_without_here (e.number == number) low top number e es rising (rising_without e.number top number es rising.1)
+
+all_without_here : (b : Bool) (P : Entry → Type 0) (number : ℕ) (e : Entry) (es : List Entry) → AllByRecursion P (e ∷ es) → AllByRecursion P (entries_without number es) → AllByRecursion P (cond b es (e ∷ entries_without number es))
+all_without_here true P number e es all rest = all.1
+all_without_here false P number e es all rest = (all.0, rest)
+
+all_without : (P : Entry → Type 0) (number : ℕ) (entries : List Entry) → AllByRecursion P entries → AllByRecursion P (entries_without number entries)
+all_without P number [] all = all
+all_without P number (e ∷ es) all = all_without_here (e.number == number) P number e es all (all_without P number es all.1)
+
+apart_without_here : (b : Bool) (number : ℕ) (e : Entry) (es : List Entry) → AreApart (e ∷ es) → AreApart (entries_without number es) → AreApart (cond b es (e ∷ entries_without number es))
+apart_without_here true number e es apart rest = apart.1
+apart_without_here false number e es apart rest = (all_without (Differ e) number es apart.0, rest)
+
+apart_without : (number : ℕ) (entries : List Entry) → AreApart entries → AreApart (entries_without number entries)
+apart_without number [] apart = apart
+apart_without number (e ∷ es) apart = apart_without_here (e.number == number) number e es apart (apart_without number es apart.1)
+
+shorter_here : (b : Bool) (number : ℕ) (e : Entry) (es : List Entry) → length (entries_without number es) ≤ length es → length (cond b es (e ∷ entries_without number es)) ≤ length (e ∷ es)
+shorter_here true number e es h = omega arith
+shorter_here false number e es h = omega arith
+
+pub length-without : (number : ℕ) (entries : List Entry) → length (entries_without number entries) ≤ length entries
+length-without number [] = omega arith
+length-without number (e ∷ es) = shorter_here (e.number == number) number e es (length-without number es)
+
+pub kept_without : (engine : EngineParts) (entries : List Entry) (given : Given) (number : ℕ) → IsKept engine entries given → IsKept engine (entries_without number entries) given
+kept_without engine entries given number kept =
+    let shorter = length-without number entries in
+    record {
+      within = omega (arith, shorter, kept.within);
+      types_within = omega (arith, shorter, kept.types_within);
+      ever = kept.ever;
+      types = kept.types;
+      references = kept.references;
+      rising = rising_without 0 given.numbers number entries kept.rising;
+      plain = all_without IsPlain number entries kept.plain;
+      apart = apart_without number entries kept.apart;
+    }
 
 -- ---- what has an index
 

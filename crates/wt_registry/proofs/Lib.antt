@@ -1,5 +1,12 @@
+pub mod Adding
+pub mod Found
 pub mod FreeIndices
 pub mod Grows
+pub mod Held
+pub mod HeldMore
+pub mod Holding
 pub mod Kept
+pub mod OneTree
 pub mod Plain
 pub mod Registration
+pub mod Standings

@@ -1,23 +1,23 @@
 -- What a registration does to the entries, in the words of the registry that they stand for.
-use Rattle.std.proofs.Common.{◌≡◌, ◌≢◌, ℕ, zero, suc, ◌+◌, ◌<◌, ◌≤◌, ◌==◌, ◌⊎◌, ◌↔◌, inl, inr, Bool, true, false, ◌&&◌, cond, List, [], ◌∷◌, ◌++◌, length, map, Option, Some, None, option_map, unwrap_or, slice_get, nat_lt, Result, Ok, Err, refl, sym, ap, subst, ◌∙◌, arith}
-use Rattle.std.specs.List.{AllByRecursion, find, flat_map, list_any, position_from}
-use Rattle.std.proofs.lemmas.Bool.{false≢true, cond-true, cond-false, false_from_ne_true}
+use Rattle.std.proofs.Common.{◌≡◌, ℕ, suc, ◌+◌, ◌<◌, ◌≤◌, ◌==◌, ◌⊎◌, inl, inr, Bool, true, false, ◌&&◌, cond, List, [], ◌∷◌, ◌++◌, length, map, Option, Some, None, option_map, replicate, slice_get, Ok, Err, refl, sym, ap, subst, ◌∙◌, arith}
+use Rattle.std.specs.List.{AllByRecursion, find}
+use Rattle.std.proofs.lemmas.Bool.{cond-true, cond-false}
 use Rattle.std.proofs.Common.{add-zero}
 use Rattle.std.proofs.lemmas.List.{length-map, map-append}
 use Rattle.wt_env.specs.Limits.{EngineParts}
-use Rattle.wt_env.specs.declared.limits.Limit.TheVariants.{Groups}
-use Rattle.wt_env.specs.Equality.{sub_types_eq, rec_group_eq, rec_group_eq-exact, rec_group_eq-refl}
+use Rattle.wt_env.specs.declared.limits.Limit.TheVariants.{Groups, Types, Ever}
+use Rattle.wt_env.specs.Equality.{sub_types_eq, rec_group_eq, rec_group_eq-exact}
 use Rattle.wt_env.specs.declared.types.VMSharedTypeIndex.{VMSharedTypeIndex}
 use Rattle.wt_env.specs.declared.types.WasmSubType.{WasmSubType}
 use Rattle.wt_env.specs.declared.types.WasmRecGroup.{WasmRecGroup}
 use Rattle.wt_tree.specs.NumberFunction.{is_number_function}
-use Rattle.wt_tree.specs.References.{group_refs, number_group}
-use Rattle.wt_tree.specs.Tree.{Description, Tree, group, none, close_outer, close, tree_eq}
+use Rattle.wt_tree.specs.References.{number_group}
+use Rattle.wt_tree.specs.Tree.{Tree, group, none, close_outer, close, tree_eq}
 use Rattle.wt_registry.specs.declared.entry.Entry.{Entry}
 use Rattle.wt_registry.specs.declared.entry.Given.{Given}
 use Rattle.wt_registry.specs.declared.refusal.Full.{Full}
-use Rattle.wt_registry.specs.Registry.{Made, Registry, Among, with_tree, trees_from, trees, place_in, located, locate, used, is_used, smallest_free, free_indices, describe, tree_of, find_tree, new_group, given_with, with_group, full_of_groups, added, found_or_added, enter, IsRising, OneIndexPerTree, NamesOlder, IsLocated, IsSound}
-use Rattle.wt_registry.specs.Entries.{made_of, made_by, IsPlain, IsOneFunction, Differ, AreApart, IsKept, registry_of}
+use Rattle.wt_registry.specs.Registry.{Made, Standing, Among, with_tree, trees_from, trees, located, used, smallest_free, describe, tree_of, find_tree, new_group, given_with, wanted_for, first_full, added_unless, found_or_added, enter, IsRising}
+use Rattle.wt_registry.specs.Entries.{made_of, made_by, IsPlain, IsOneFunction, IsKept, registry_of, entered_as, wanted_at}
 use Rattle.wt_registry.proofs.Plain.{group_refs-plain, number_group-plain}
 
 -- ---- lists
@@ -131,15 +131,15 @@ tree_of-group entries key one =
     subst (λ types. tree_of (made_by entries) types ≡ group types none) (sym one.types) (tree_of-plain (made_by entries) one.member one.is_number_function)
 
 -- where the search by keys answers this, the registration does
-enter-by_key : (engine : EngineParts) (entries : List Entry) (given : Given) (ty : WasmSubType) (found : Option Entry) → IsKept engine entries given → is_number_function ty ≡ true → find (λ entry. rec_group_eq entry.group (record { types = ty ∷ [] })) entries ≡ found → enter (registry_of engine entries given) (describe (made_by entries) (ty ∷ [])) ≡ found_or_added (registry_of engine entries given) (describe (made_by entries) (ty ∷ [])) (option_map made_of found)
-enter-by_key engine entries given ty found kept plain is =
-    ap (found_or_added (registry_of engine entries given) (describe (made_by entries) (ty ∷ [])))
+enter-by_key : (engine : EngineParts) (entries : List Entry) (given : Given) (standings : List Standing) (ty : WasmSubType) (found : Option Entry) → IsKept engine entries given → is_number_function ty ≡ true → find (λ entry. rec_group_eq entry.group (record { types = ty ∷ [] })) entries ≡ found → enter (registry_of engine entries given standings) (describe (made_by entries) (ty ∷ [])) ≡ found_or_added (registry_of engine entries given standings) (describe (made_by entries) (ty ∷ [])) (option_map made_of found)
+enter-by_key engine entries given standings ty found kept plain is =
+    ap (found_or_added (registry_of engine entries given standings) (describe (made_by entries) (ty ∷ [])))
     (ap (find_tree (made_by entries)) (tree_of-plain (made_by entries) ty plain)
     ∙ find_tree-by_key given.numbers entries (record { types = ty ∷ [] }) kept.rising kept.plain
     ∙ ap (option_map made_of) is)
 
 -- an entry with this key stands for the group with this description
-entry_made : (made : List Made) (ty : WasmSubType) (entry : Entry) (index : VMSharedTypeIndex) → is_number_function ty ≡ true → entry.group ≡ record { types = ty ∷ [] } → entry.outer ≡ [] → entry.indices ≡ index ∷ [] → made_of entry ≡ record { number = entry.number; description = describe made (ty ∷ []); indices = index ∷ [] }
+entry_made : (made : List Made) (ty : WasmSubType) (entry : Entry) (index : VMSharedTypeIndex) → is_number_function ty ≡ true → entry.group ≡ record { types = ty ∷ [] } → entry.outer ≡ [] → entry.indices ≡ index ∷ [] → made_of entry ≡ entered_as entry.number (describe made (ty ∷ [])) index
 entry_made made ty entry index plain key leaving indices =
     let members = ap (λ (g : WasmRecGroup). number_group g.types) key in
     let leaves = leaving ∙ sym (ap (map (located made)) (group_refs-plain ty plain)) in
@@ -148,49 +148,65 @@ entry_made made ty entry index plain key leaving indices =
 some_same : {A : Type 0} {x y : A} → Some x ≡ Some y → x ≡ y
 some_same h = cc
 
-not_above : (bound n m : ℕ) → n ≡ m → m + 1 ≤ bound → nat_lt bound (n + 1) ≡ false
-not_above bound n m same within = grind arith
-
-is_above : (bound n m : ℕ) → n ≡ m → bound < m + 1 → nat_lt bound (n + 1) ≡ true
-is_above bound n m same above = grind arith
-
-abbrev full_at : ℕ → ℕ → Full
-full_at bound wanted = record { limit = Groups; bound = bound; wanted = wanted }
-
-full_answer : {A : Type 0} (bound n m : ℕ) (otherwise : A) → n ≡ m → bound < m + 1 → cond (nat_lt bound (n + 1)) (Err (full_at bound (n + 1))) (Ok otherwise) ≡ Err (full_at bound (m + 1))
-full_answer bound n m otherwise same above =
-    cond-true (nat_lt bound (n + 1)) (Err (full_at bound (n + 1))) (Ok otherwise) (is_above bound n m same above)
-    ∙ ap (λ k. Err (full_at bound (k + 1))) same
-
 -- the answer where a registered group has the key
-pub enter-found : (engine : EngineParts) (entries : List Entry) (given : Given) (ty : WasmSubType) (entry : Entry) (index : VMSharedTypeIndex) → IsKept engine entries given → is_number_function ty ≡ true → find (λ entry. rec_group_eq entry.group (record { types = ty ∷ [] })) entries ≡ Some entry → slice_get entry.indices 0 ≡ Some index → enter (registry_of engine entries given) (describe (made_by entries) (ty ∷ [])) ≡ Ok (record { number = entry.number; description = describe (made_by entries) (ty ∷ []); indices = index ∷ [] }, registry_of engine entries given)
-enter-found engine entries given ty entry index kept plain is first =
+pub enter-found : (engine : EngineParts) (entries : List Entry) (given : Given) (standings : List Standing) (ty : WasmSubType) (entry : Entry) (index : VMSharedTypeIndex) → IsKept engine entries given → is_number_function ty ≡ true → find (λ entry. rec_group_eq entry.group (record { types = ty ∷ [] })) entries ≡ Some entry → slice_get entry.indices 0 ≡ Some index → enter (registry_of engine entries given standings) (describe (made_by entries) (ty ∷ [])) ≡ Ok (entered_as entry.number (describe (made_by entries) (ty ∷ [])) index, registry_of engine entries given standings)
+enter-found engine entries given standings ty entry index kept plain is first =
     let passes = found_passes (λ (e : Entry). rec_group_eq e.group (record { types = ty ∷ [] })) entries entry is in
     let own = all_among IsPlain entries entry kept.plain passes.1 in
     let same : own.index ≡ index = some_same (ap (λ is. slice_get is 0) (sym own.indices) ∙ first) in
-    enter-by_key engine entries given ty (Some entry) kept plain is
-    ∙ ap (λ m. Ok (m, registry_of engine entries given)) (entry_made (made_by entries) ty entry index plain (rec_group_eq-exact entry.group (record { types = ty ∷ [] }) passes.0) own.outer (own.indices ∙ ap (λ x. x ∷ []) same))
+    enter-by_key engine entries given standings ty (Some entry) kept plain is
+    ∙ ap (λ m. Ok (m, registry_of engine entries given standings)) (entry_made (made_by entries) ty entry index plain (rec_group_eq-exact entry.group (record { types = ty ∷ [] }) passes.0) own.outer (own.indices ∙ ap (λ x. x ∷ []) same))
 
--- the answer where there is no room for one more
-pub enter-full : (engine : EngineParts) (entries : List Entry) (given : Given) (ty : WasmSubType) → IsKept engine entries given → is_number_function ty ≡ true → find (λ entry. rec_group_eq entry.group (record { types = ty ∷ [] })) entries ≡ None → engine.limits.groups < length entries + 1 → enter (registry_of engine entries given) (describe (made_by entries) (ty ∷ [])) ≡ Err (record { limit = Groups; bound = engine.limits.groups; wanted = length entries + 1 })
-enter-full engine entries given ty kept plain is above =
-    enter-by_key engine entries given ty None kept plain is
-    ∙ full_answer engine.limits.groups (length (made_by entries)) (length entries) _ (length-map entries made_of) above
+-- ---- how many indices are in use
+
+pub length-used : (entries : List Entry) → AllByRecursion IsPlain entries → length (used (made_by entries)) ≡ length entries
+length-used [] plain = refl
+length-used (e ∷ es) plain =
+    ap (λ is. length (map (λ (i : VMSharedTypeIndex). i.0) is ++ used (made_by es))) ((plain.0).indices) ∙ ap suc (length-used es plain.1)
+
+-- what a new group of one type wants of the limits
+wanted_for-plain : (engine : EngineParts) (entries : List Entry) (given : Given) (standings : List Standing) (ty : WasmSubType) → IsKept engine entries given → wanted_for (registry_of engine entries given standings) (describe (made_by entries) (ty ∷ [])) ≡ wanted_at engine.limits (length entries) given.numbers
+wanted_for-plain engine entries given standings ty kept =
+    let groups = length-map entries made_of in
+    let types = length-used entries kept.plain in
+    λ i. record { limit = Groups; bound = engine.limits.groups; wanted = groups i + 1 }
+    ∷ record { limit = Types; bound = engine.limits.types; wanted = types i + 1 }
+    ∷ record { limit = Ever; bound = engine.limits.ever; wanted = given.numbers + 1 }
+    ∷ []
+
+passed : (engine : EngineParts) (entries : List Entry) (given : Given) (standings : List Standing) (ty : WasmSubType) (full : Option Full) → IsKept engine entries given → is_number_function ty ≡ true → find (λ entry. rec_group_eq entry.group (record { types = ty ∷ [] })) entries ≡ None → first_full (wanted_at engine.limits (length entries) given.numbers) ≡ full → enter (registry_of engine entries given standings) (describe (made_by entries) (ty ∷ [])) ≡ added_unless (registry_of engine entries given standings) (describe (made_by entries) (ty ∷ [])) full
+passed engine entries given standings ty full kept plain is passes =
+    enter-by_key engine entries given standings ty None kept plain is
+    ∙ ap (added_unless (registry_of engine entries given standings) (describe (made_by entries) (ty ∷ []))) (ap first_full (wanted_for-plain engine entries given standings ty kept) ∙ passes)
+
+-- the answer where a limit would be passed
+pub enter-full : (engine : EngineParts) (entries : List Entry) (given : Given) (standings : List Standing) (ty : WasmSubType) (full : Full) → IsKept engine entries given → is_number_function ty ≡ true → find (λ entry. rec_group_eq entry.group (record { types = ty ∷ [] })) entries ≡ None → first_full (wanted_at engine.limits (length entries) given.numbers) ≡ Some full → enter (registry_of engine entries given standings) (describe (made_by entries) (ty ∷ [])) ≡ Err full
+enter-full engine entries given standings ty full kept plain is passes = passed engine entries given standings ty (Some full) kept plain is passes
+
+abbrev pub new_entry : ℕ → List WasmSubType → VMSharedTypeIndex → Entry
+new_entry number types index = record { number = number; group = record { types = types }; outer = []; indices = index ∷ [] }
+
+abbrev pub one_more : Given → Given
+one_more given = record { numbers = given.numbers + 1; types = given.types + 1; references = given.references }
+
+-- the standing of a group that nobody holds yet
+abbrev pub unheld : EngineParts → ℕ → Standing
+unheld engine number = record { number = number; holds = replicate engine.limits.parties 0; waits = false }
 
 -- the answer where it is added
-pub enter-added : (engine : EngineParts) (entries : List Entry) (given : Given) (ty : WasmSubType) (index : VMSharedTypeIndex) → IsKept engine entries given → is_number_function ty ≡ true → find (λ entry. rec_group_eq entry.group (record { types = ty ∷ [] })) entries ≡ None → length entries + 1 ≤ engine.limits.groups → index.0 ≡ smallest_free (used (made_by entries)) → enter (registry_of engine entries given) (describe (made_by entries) (ty ∷ [])) ≡ Ok (record { number = given.numbers + 1; description = describe (made_by entries) (ty ∷ []); indices = index ∷ [] }, registry_of engine (entries ++ record { number = given.numbers + 1; group = record { types = ty ∷ [] }; outer = []; indices = index ∷ [] } ∷ []) (record { numbers = given.numbers + 1; types = given.types + 1; references = given.references }))
-enter-added engine entries given ty index kept plain is within smallest =
+pub enter-added : (engine : EngineParts) (entries : List Entry) (given : Given) (standings : List Standing) (ty : WasmSubType) (index : VMSharedTypeIndex) → IsKept engine entries given → is_number_function ty ≡ true → find (λ entry. rec_group_eq entry.group (record { types = ty ∷ [] })) entries ≡ None → first_full (wanted_at engine.limits (length entries) given.numbers) ≡ None → index.0 ≡ smallest_free (used (made_by entries)) → enter (registry_of engine entries given standings) (describe (made_by entries) (ty ∷ [])) ≡ Ok (entered_as (given.numbers + 1) (describe (made_by entries) (ty ∷ [])) index, registry_of engine (entries ++ new_entry (given.numbers + 1) (ty ∷ []) index ∷ []) (one_more given) (standings ++ unheld engine (given.numbers + 1) ∷ []))
+enter-added engine entries given standings ty index kept plain is passes smallest =
     let made = made_by entries in
     let described = describe made (ty ∷ []) in
-    let new : Made = record { number = given.numbers + 1; description = described; indices = index ∷ [] } in
-    let entry : Entry = record { number = given.numbers + 1; group = record { types = ty ∷ [] }; outer = []; indices = index ∷ [] } in
-    let chosen : new_group (registry_of engine entries given) described ≡ new = ap (λ (n : ℕ). record { number = given.numbers + 1; description = described; indices = record { 0 = n } ∷ [] }) (sym smallest) in
+    let new : Made = entered_as (given.numbers + 1) described index in
+    let entry : Entry = new_entry (given.numbers + 1) (ty ∷ []) index in
+    let kept_by = standings ++ unheld engine (given.numbers + 1) ∷ [] in
+    let chosen : new_group (registry_of engine entries given standings) described ≡ new = ap (λ (n : ℕ). record { number = given.numbers + 1; description = described; indices = record { 0 = n } ∷ [] }) (sym smallest) in
     let same : made_of entry ≡ new = entry_made made ty entry index plain refl refl refl in
     let listed : made ++ new ∷ [] ≡ made_by (entries ++ entry ∷ []) = ap (λ m. made ++ m ∷ []) (sym same) ∙ sym (map-append made_of entries (entry ∷ [])) in
     let outer : length described.outer ≡ 0 = ap (λ refs. length (map (located made) refs)) (group_refs-plain ty plain) in
-    let counts : given_with given described ≡ record { numbers = given.numbers + 1; types = given.types + 1; references = given.references } = ap (λ (n : ℕ). record { numbers = given.numbers + 1; types = given.types + 1; references = n }) (ap (λ n. given.references + n) outer ∙ add-zero given.references) in
-    enter-by_key engine entries given ty None kept plain is
-    ∙ cond-false (nat_lt engine.limits.groups (length made + 1)) (Err (full_of_groups (registry_of engine entries given))) (Ok (new_group (registry_of engine entries given) described, with_group (registry_of engine entries given) described)) (not_above engine.limits.groups (length made) (length entries) (length-map entries made_of) within)
-    ∙ ap (λ m. Ok (m, record { engine = engine; made = made ++ m ∷ []; given = given_with given described; waiting = [] })) chosen
-    ∙ ap (λ ms. Ok (new, record { engine = engine; made = ms; given = given_with given described; waiting = [] })) listed
-    ∙ ap (λ g. Ok (new, record { engine = engine; made = made_by (entries ++ entry ∷ []); given = g; waiting = [] })) counts
+    let counts : given_with given described ≡ one_more given = ap (λ (n : ℕ). record { numbers = given.numbers + 1; types = given.types + 1; references = n }) (ap (λ n. given.references + n) outer ∙ add-zero given.references) in
+    passed engine entries given standings ty None kept plain is passes
+    ∙ ap (λ m. Ok (m, record { engine = engine; made = made ++ m ∷ []; given = given_with given described; standings = kept_by })) chosen
+    ∙ ap (λ ms. Ok (new, record { engine = engine; made = ms; given = given_with given described; standings = kept_by })) listed
+    ∙ ap (λ g. Ok (new, record { engine = engine; made = made_by (entries ++ entry ∷ []); given = g; standings = kept_by })) counts

@@ -1,6 +1,5 @@
 -- Which groups lead to which.
 use Rattle.std.specs.Prelude.{◌≡◌, ℕ, List}
-use Rattle.wt_tree.specs.Tree.{Description}
 use Rattle.wt_registry.specs.Registry.{Made, Among}
 
 -- the group with the first number refers to the group with the second

@@ -1,8 +1,9 @@
 -- A registry as contracts see it: what was made, and what a registration does.
-use Rattle.std.specs.Prelude.{◌≡◌, ◌↔◌, ℕ, zero, suc, ◌+◌, ◌<◌, ◌≤◌, ◌==◌, ◌⊎◌, List, [], ◌∷◌, ◌++◌, length, map, slice_get, Bool, nat_lt, if◌then◌else◌, Option, Some, None, option_map, option_and_then, unwrap_or, Result, Ok, Err}
+use Rattle.std.specs.Prelude.{◌≡◌, ◌≢◌, ◌↔◌, ℕ, zero, suc, ◌+◌, ◌-◌, ◌<◌, ◌≤◌, ◌==◌, ◌⊎◌, List, [], ◌∷◌, ◌++◌, length, map, replicate, slice_get, slice_index, slice_set, Bool, false, not, nat_lt, if◌then◌else◌, Option, Some, None, option_map, unwrap_or, Result, Ok, Err}
+use Rattle.std.specs.Hash as fed
 use Rattle.std.specs.List.{find, flat_map, list_any, position_from}
 use Rattle.wt_env.specs.Limits.{EngineParts}
-use Rattle.wt_env.specs.declared.limits.Limit.TheVariants.{Groups}
+use Rattle.wt_env.specs.declared.limits.Limit.TheVariants.{Groups, Types, Ever, Holds}
 use Rattle.wt_env.specs.declared.types.VMSharedTypeIndex.{VMSharedTypeIndex}
 use Rattle.wt_env.specs.declared.types.EngineOrModuleTypeIndex.{EngineOrModuleTypeIndex}
 use Rattle.wt_env.specs.declared.types.EngineOrModuleTypeIndex.TheVariants as index
@@ -11,6 +12,8 @@ use Rattle.wt_tree.specs.References.{number_group, group_refs}
 use Rattle.wt_tree.specs.Tree.{Description, Tree, group, none, ClosedTree, close, tree_eq}
 use Rattle.wt_registry.specs.declared.entry.Given.{Given}
 use Rattle.wt_registry.specs.declared.refusal.Full.{Full}
+use Rattle.wt_registry.specs.declared.debt.Swept.{Swept}
+use Rattle.wt_registry.specs.declared.debt.Swept.TheVariants.{Removed, Kept, Gone}
 
 -- a registered group: its registration number, what it is, and the index of each member
 pub record Made : Type 0 where
@@ -18,17 +21,24 @@ pub record Made : Type 0 where
   pub description : Description
   pub indices : List VMSharedTypeIndex
 
+-- what keeps a registered group: how many holds each party has of it, by the party's number, and whether
+-- it waits for a sweep
+pub record Standing : Type 0 where
+  pub number : ℕ
+  pub holds : List ℕ
+  pub waits : Bool
+
 -- a registry: its engine, the registered groups from the oldest on, how much was ever registered, and
--- the groups that wait for a sweep
+-- what keeps each group
 pub record Registry : Type 0 where
   pub engine : EngineParts
   pub made : List Made
   pub given : Given
-  pub waiting : List ℕ
+  pub standings : List Standing
 
 -- a registry in which nothing is registered
 abbrev pub empty_registry : EngineParts → Registry
-empty_registry engine = record { engine = engine; made = []; given = record { numbers = 0; types = 0; references = 0 }; waiting = [] }
+empty_registry engine = record { engine = engine; made = []; given = record { numbers = 0; types = 0; references = 0 }; standings = [] }
 
 -- x stands in the list
 abbrev pub Among : {A : Type 0} → A → List A → Type 0
@@ -131,20 +141,39 @@ given_with given description = record {
   references = given.references + length description.outer;
 }
 
+-- a new group is held by nobody yet
+abbrev pub new_standing : Registry → Standing
+new_standing registry = record {
+  number = registry.given.numbers + 1;
+  holds = replicate registry.engine.limits.parties 0;
+  waits = false;
+}
+
 abbrev pub with_group : Registry → Description → Registry
 with_group registry description = record registry {
   made = registry.made ++ new_group registry description ∷ [];
   given = given_with registry.given description;
+  standings = registry.standings ++ new_standing registry ∷ [];
 }
 
-abbrev pub full_of_groups : Registry → Full
-full_of_groups registry = record { limit = Groups; bound = registry.engine.limits.groups; wanted = length registry.made + 1 }
+-- what a new group wants of each limit, in the order in which the limits are tested
+abbrev pub wanted_for : Registry → Description → List Full
+wanted_for registry description =
+    record { limit = Groups; bound = registry.engine.limits.groups; wanted = length registry.made + 1 }
+    ∷ record { limit = Types; bound = registry.engine.limits.types; wanted = length (used registry.made) + length description.members }
+    ∷ record { limit = Ever; bound = registry.engine.limits.ever; wanted = registry.given.numbers + 1 }
+    ∷ []
+
+-- the first that is above its bound
+abbrev pub first_full : List Full → Option Full
+first_full wanted = find (λ full. nat_lt full.bound full.wanted) wanted
+
+abbrev pub added_unless : Registry → Description → Option Full → Result (Made × Registry) Full
+added_unless registry description (Some full) = Err full
+added_unless registry description None = Ok (new_group registry description, with_group registry description)
 
 abbrev pub added : Registry → Description → Result (Made × Registry) Full
-added registry description =
-    if nat_lt registry.engine.limits.groups (length registry.made + 1)
-    then Err (full_of_groups registry)
-    else Ok (new_group registry description, with_group registry description)
+added registry description = added_unless registry description (first_full (wanted_for registry description))
 
 abbrev pub found_or_added : Registry → Description → Option Made → Result (Made × Registry) Full
 found_or_added registry description (Some made) = Ok (made, registry)
@@ -154,6 +183,87 @@ found_or_added registry description None = added registry description
 abbrev pub enter : Registry → Description → Result (Made × Registry) Full
 enter registry description = found_or_added registry description (find_tree registry.made (close (trees registry.made) description))
 
+-- ---- holds
+
+abbrev pub is_held : List ℕ → Bool
+is_held holds = list_any (λ count. nat_lt 0 count) holds
+
+-- how many holds of a group a party has
+abbrev pub held_at : List Standing → ℕ → ℕ → ℕ
+held_at [] party number = 0
+held_at (standing ∷ rest) party number = if standing.number == number then slice_index standing.holds party else held_at rest party number
+
+-- whether a group waits
+abbrev pub waits_at : List Standing → ℕ → Bool
+waits_at [] number = false
+waits_at (standing ∷ rest) number = if standing.number == number then standing.waits else waits_at rest number
+
+-- the groups that wait, by their registration numbers
+abbrev pub waiting : List Standing → List ℕ
+waiting [] = []
+waiting (standing ∷ rest) = if standing.waits then standing.number ∷ waiting rest else waiting rest
+
+-- what keeps this group is changed
+abbrev pub change : ℕ → (Standing → Standing) → List Standing → List Standing
+change number f [] = []
+change number f (standing ∷ rest) = if standing.number == number then f standing ∷ rest else standing ∷ change number f rest
+
+-- one more hold of a party; what is held doesn't wait
+abbrev pub gained : ℕ → Standing → Standing
+gained party standing = record standing {
+  holds = slice_set standing.holds party (slice_index standing.holds party + 1);
+  waits = false;
+}
+
+-- one hold less; what nothing holds any more waits
+abbrev pub lost : ℕ → Standing → Standing
+lost party standing = record standing {
+  holds = slice_set standing.holds party (slice_index standing.holds party - 1);
+  waits = not (is_held (slice_set standing.holds party (slice_index standing.holds party - 1)));
+}
+
+abbrev pub full_of_holds : Registry → ℕ → ℕ → Full
+full_of_holds registry party number = record { limit = Holds; bound = registry.engine.limits.holds; wanted = held_at registry.standings party number + 1 }
+
+-- One more hold of a party on a registered group, or the limit that it would pass.
+abbrev pub hold : Registry → ℕ → ℕ → Result Registry Full
+hold registry party number =
+    if nat_lt registry.engine.limits.holds (held_at registry.standings party number + 1)
+    then Err (full_of_holds registry party number)
+    else Ok (record registry { standings = change number (gained party) registry.standings })
+
+-- One hold of a party ends: the debt, where the group waits now, and the registry after it.
+abbrev pub drop : Registry → ℕ → ℕ → Option ℕ × Registry
+drop registry party number =
+    let standings = change number (lost party) registry.standings in
+    (if waits_at standings number then Some number else None, record registry { standings = standings })
+
+abbrev pub is_registered : List Made → ℕ → Bool
+is_registered made number = list_any (λ m. m.number == number) made
+
+-- the groups without this one
+abbrev pub made_without : ℕ → List Made → List Made
+made_without number [] = []
+made_without number (made ∷ rest) = if made.number == number then rest else made ∷ made_without number rest
+
+abbrev pub standings_without : ℕ → List Standing → List Standing
+standings_without number [] = []
+standings_without number (standing ∷ rest) = if standing.number == number then rest else standing ∷ standings_without number rest
+
+abbrev pub without_group : Registry → ℕ → Registry
+without_group registry number = record registry {
+  made = made_without number registry.made;
+  standings = standings_without number registry.standings;
+}
+
+-- A sweep of a debt: a group that waits is removed, and a group that doesn't is kept; that registration may
+-- also be gone.
+abbrev pub sweep : Registry → ℕ → Swept × Registry
+sweep registry number =
+    if waits_at registry.standings number
+    then (Removed (length registry.made - length (made_without number registry.made)), without_group registry number)
+    else (if is_registered registry.made number then Kept else Gone, registry)
+
 -- a hold of one registered type, by a party
 pub record Hold : Type 0 where
   pub engine : ℕ
@@ -161,16 +271,50 @@ pub record Hold : Type 0 where
   pub number : ℕ
   pub party : ℕ
 
+-- what is fed to a hasher for a hold: its engine and its index
+abbrev pub hold_feed : Hold → List (List ℕ)
+hold_feed hold = fed.u64 hold.engine ++ fed.u32 hold.index.0
+
+-- The hold is one of a party on a group of this registry: what it takes to end it.
+pub record IsHeld (registry : Registry) (hold : Hold) : Type 0 where
+  pub engine : registry.engine.number ≡ hold.engine
+  pub party : hold.party < registry.engine.limits.parties
+  pub held : 1 ≤ held_at registry.standings hold.party hold.number
+
 abbrev pub hold_of : ℕ → ℕ → Made → Hold
 hold_of engine party made = record { engine = engine; index = unwrap_or (slice_get made.indices 0) (record { 0 = 0 }); number = made.number; party = party }
 
-abbrev pub held : ℕ → ℕ → Result (Made × Registry) Full → Result (Hold × Registry) Full
-held engine party (Ok entered) = Ok (hold_of engine party entered.0, entered.1)
-held engine party (Err full) = Err full
+abbrev pub held_as : Made → Result Registry Full → Result (Made × Registry) Full
+held_as made (Ok registry) = Ok (made, registry)
+held_as made (Err full) = Err full
+
+abbrev pub held_by : ℕ → Result (Made × Registry) Full → Result (Made × Registry) Full
+held_by party (Ok entered) = held_as entered.0 (hold entered.1 party entered.0.number)
+held_by party (Err full) = Err full
+
+-- the group of a description, which a party has one more hold of
+abbrev pub registered : Registry → ℕ → Description → Result (Made × Registry) Full
+registered registry party description = held_by party (enter registry description)
+
+abbrev pub hold_made : ℕ → ℕ → Result (Made × Registry) Full → Result (Hold × Registry) Full
+hold_made engine party (Ok entered) = Ok (hold_of engine party entered.0, entered.1)
+hold_made engine party (Err full) = Err full
 
 -- A registration of one type by a party: its hold and the registry after it, or the limit that it would pass.
 abbrev pub register : Registry → ℕ → WasmSubType → Result (Hold × Registry) Full
-register registry party ty = held registry.engine.number party (enter registry (describe registry.made (ty ∷ [])))
+register registry party ty = hold_made registry.engine.number party (registered registry party (describe registry.made (ty ∷ [])))
+
+abbrev pub rooted_after : ℕ → ℕ → VMSharedTypeIndex → ℕ → Result Registry Full → Result (Option Hold × Registry) Full
+rooted_after engine party index number (Ok registry) = Ok (Some (record { engine = engine; index = index; number = number; party = party }), registry)
+rooted_after engine party index number (Err full) = Err full
+
+abbrev pub rooted : Registry → ℕ → VMSharedTypeIndex → Option (ℕ × ℕ) → Result (Option Hold × Registry) Full
+rooted registry party index (Some at) = rooted_after registry.engine.number party index at.0 (hold registry party at.0)
+rooted registry party index None = Ok (None, registry)
+
+-- One more hold of the type that has this index; there may be none.
+abbrev pub root : Registry → ℕ → VMSharedTypeIndex → Result (Option Hold × Registry) Full
+root registry party index = rooted registry party index (locate registry.made index)
 
 -- ---- what is true of every registry
 
@@ -198,15 +342,31 @@ IsLocated made =
     (a : Made) (j : ℕ) (i : VMSharedTypeIndex) → Among a made
     → slice_get a.indices j ≡ Some i → locate made i ≡ Some (a.number, j)
 
+-- the counts have a place for each party, and none passes the limit
+pub record AreCounted (engine : EngineParts) (standings : List Standing) : Type 0 where
+  pub parties : (s : Standing) → Among s standings → length s.holds ≡ engine.limits.parties
+  pub bounded : (s : Standing) (party : ℕ) → Among s standings → slice_index s.holds party ≤ engine.limits.holds
+
+-- what keeps a group is told for each, and a group waits exactly where nobody holds it
+pub record AreStanding (engine : EngineParts) (made : List Made) (standings : List Standing) : Type 0 where
+  pub numbers : map (λ s. s.number) standings ≡ map (λ m. m.number) made
+  pub parties : (s : Standing) → Among s standings → length s.holds ≡ engine.limits.parties
+  pub bounded : (s : Standing) (party : ℕ) → Among s standings → slice_index s.holds party ≤ engine.limits.holds
+  pub waits : (s : Standing) → Among s standings → s.waits ≡ not (is_held s.holds)
+
 pub record IsSound (registry : Registry) : Type 0 where
   pub rising : IsRising 0 registry.made registry.given.numbers
   pub one_index : OneIndexPerTree registry.made
   pub names_older : NamesOlder registry.made
   pub is_located : IsLocated registry.made
+  pub are_standing : AreStanding registry.engine registry.made registry.standings
 
--- A registration that was accepted: a group with this number is registered now, and no other was not before.
-pub record Grows (old new : Registry) (number : ℕ) : Type 0 where
+-- What a registration changes: a group with this number is registered now, and no other was added; the party
+-- has one more hold of it, and no other hold was changed; no group waits that didn't.
+pub record Grows (old new : Registry) (party number : ℕ) : Type 0 where
   pub engine : new.engine ≡ old.engine
-  pub waiting : new.waiting ≡ old.waiting
   pub registered : (group : Made) × Among group new.made × (group.number ≡ number)
   pub made : (new.made ≡ old.made) ⊎ ((group : Made) × (new.made ≡ old.made ++ group ∷ []) × (group.number ≡ number))
+  pub more : held_at new.standings party number ≡ held_at old.standings party number + 1
+  pub others : (p n : ℕ) → (p ≢ party) ⊎ (n ≢ number) → held_at new.standings p n ≡ held_at old.standings p n
+  pub waiting : (n : ℕ) → Among n (waiting new.standings) → Among n (waiting old.standings)

@@ -2,9 +2,15 @@
 //! Equal groups are one group, whoever registers them.
 #![tactic(auto)]
 
+pub mod counts;
+pub mod debt;
+mod enter;
 pub mod entry;
-mod groups;
+pub mod groups;
+pub mod laws;
 pub mod live;
 pub mod refusal;
 pub mod registered_type;
 pub mod registry;
+mod search;
+mod sweeping;

@@ -1,5 +1,6 @@
 //! Why a registration is refused.
 
+use std::alloc::AllocError;
 use wt_env::limits::Limit;
 use wt_env::memory::OutOfMemory;
 
@@ -30,6 +31,17 @@ impl From<OutOfMemory> for BuildRefusal {
     ghost from_gives = { λ _ refusal. refusal ≡ refusals.OutOfMemory };
 
     fn from(_error: OutOfMemory) -> BuildRefusal {
+        BuildRefusal::OutOfMemory
+    }
+}
+
+impl From<AllocError> for BuildRefusal {
+    ghost use Rattle.std.specs.Prelude.{◌≡◌};
+    ghost use Rattle.wt_registry.specs.declared.refusal.BuildRefusal.TheVariants as refusals;
+
+    ghost from_gives = { λ _ refusal. refusal ≡ refusals.OutOfMemory };
+
+    fn from(_error: AllocError) -> BuildRefusal {
         BuildRefusal::OutOfMemory
     }
 }

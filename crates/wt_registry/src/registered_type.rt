@@ -1,10 +1,13 @@
 //! Holds of registered types, and the parties that have them.
 
-ghost use Rattle.std.specs.Prelude.{◌≡◌, ◌<◌, [], ◌∷◌, IfOk, OnErr, Ok, Err, Some, true};
+ghost use Rattle.std.specs.Prelude.{◌≡◌, ◌<◌, ◌≤◌, [], ◌∷◌, IfOk, OnErr, Ok, Err, Some, IsSome, true};
 ghost use Rattle.wt_tree.specs.NumberFunction.{is_number, is_number_function};
+ghost use Rattle.wt_registry.specs.Registry.{IsHeld};
 
-use crate::refusal::BuildRefusal;
+use crate::debt::Debt;
+use crate::refusal::{BuildRefusal, Full};
 use crate::registry::TypeRegistry;
+use std::hash::{Hash, Hasher};
 use std::marker::Model;
 use wt_env::types::{VMSharedTypeIndex, WasmSubType};
 
@@ -38,7 +41,8 @@ impl PartyNumber {
     }
 }
 
-/// One hold of a registered type, by a party. It is never dropped, so it must be spent.
+/// One hold of a registered type, by a party. It is never dropped by itself, so it must be spent. Two are
+/// equal where their engine and their index are.
 #[derive(Debug)]
 pub struct RegisteredType {
     engine: u64,
@@ -55,14 +59,53 @@ impl Model for RegisteredType {
     ghost view = { λ hold. record { engine = hold.engine; index = hold.index; number = hold.number; party = hold.party } };
 }
 
+impl PartialEq for RegisteredType {
+    ghost use Rattle.std.specs.Prelude.{◌==◌, ◌&&◌};
+    ghost use Rattle.std.proofs.Common.{rules};
+    ghost use Rattle.std.specs.Cmp.Rules.{comparing};
+    ghost use Rattle.std.specs.Ordering.{eq_of_both, on};
+
+    ghost eq = { eq_of_both (on (λ hold. hold.engine) ◌==◌) (on (λ hold. hold.index.0) ◌==◌) };
+
+    ghost laws = { Prim.search (comparing, rules) };
+
+    fn eq(&self, other: &RegisteredType) -> bool {
+        self.engine == other.engine && self.index == other.index
+    }
+}
+
+impl Eq for RegisteredType {
+    ghost use Rattle.std.proofs.Common.{rules};
+    ghost use Rattle.std.specs.Cmp.Rules.{comparing};
+
+    ghost laws = { Prim.search (comparing, rules) };
+}
+
+impl Hash for RegisteredType {
+    ghost use Rattle.std.proofs.Common.{rules};
+    ghost use Rattle.std.specs.Cmp.Rules.{hashing};
+    ghost use Rattle.wt_registry.specs.Registry.{hold_feed};
+
+    ghost hash_input = { hold_feed };
+
+    ghost respects_eq = { Prim.search (hashing, rules) };
+
+    fn hash<H: Hasher>(&self, state: &mut H) {
+        self.engine.hash(state);
+        self.index.bits().hash(state);
+    }
+}
+
 impl RegisteredType {
-    ghost use Rattle.wt_registry.specs.Registry.{IsSound, Grows, register, closed_tree, tree_of};
+    ghost use Rattle.wt_registry.specs.Registry.{drop as drop_of};
+    ghost use Rattle.wt_registry.specs.Registry.{IsSound, Grows, locate, sub_type_at, register, root as root_of, hold, closed_tree, tree_of};
 
     /// Registers a type for a party, and gives the party one hold of it. A type whose closed tree is that
     /// of a registered one is that one, with its index. Otherwise it gets the smallest free index.
     ///
-    /// It is refused `Full` exactly where there would be more groups than the engine's limit allows. A
-    /// refusal leaves all as before, want of memory included.
+    /// It is refused `Full` exactly where a limit would be passed: on groups, types, registration numbers or
+    /// holds, and the first of them in this order is told. A refusal leaves all as before, want of memory
+    /// included.
     pub fn new(
         registry: &mut TypeRegistry,
         party: &mut PartyNumber,
@@ -77,12 +120,15 @@ impl RegisteredType {
         ensures named { IfOk result (λ hold. closed_tree registry.new.made hold.index
             ≡ Some (record { tree = tree_of registry.old.made (ty ∷ []); place = 0 })) }
         ensures err { OnErr result (registry.new ≡ registry.old) }
-        ensures grows { IfOk result (λ hold. Grows registry.old registry.new hold.number) }
         ensures party { party.new ≡ party.old }
+        ensures grows { IfOk result (λ hold. Grows registry.old registry.new party.old hold.number) }
+        ensures owner { IfOk result (λ hold. hold.party ≡ party.old) }
+        ensures held { IfOk result (λ hold. IsHeld registry.new hold) }
         ensures sound { IsSound registry.new }
     {
+        registry.assure();
         let engine = registry.engine().number();
-        let (number, index) = registry.enter(ty)?;
+        let (number, index) = registry.register(party.number(), ty)?;
         Ok(RegisteredType {
             engine,
             index,
@@ -91,11 +137,116 @@ impl RegisteredType {
         })
     }
 
+    /// One more hold of the type that has this index; `None` exactly where the index names no registered
+    /// type. It is refused exactly where the party's holds of the type's group would pass the limit. It takes
+    /// no memory.
+    pub fn try_root(
+        registry: &mut TypeRegistry,
+        party: &mut PartyNumber,
+        index: VMSharedTypeIndex,
+    ) -> Result<Option<RegisteredType>, Full>
+        requires { party.old < registry.old.engine.limits.parties }
+        ensures ok { IfOk result (λ found. root_of registry.old party.old index ≡ Ok (found, registry.new)) }
+        ensures owner { IfOk result (λ found. (hold : _) → found ≡ Some hold → hold.party ≡ party.old) }
+        ensures held { IfOk result (λ found. (hold : _) → found ≡ Some hold → IsHeld registry.new hold) }
+        ensures full { (full : _) → result ≡ Err full → root_of registry.old party.old index ≡ Err full }
+        ensures err { OnErr result (registry.new ≡ registry.old) }
+        ensures party { party.new ≡ party.old }
+        ensures sound { IsSound registry.new }
+    {
+        registry.assure();
+        let engine = registry.engine().number();
+        match registry.number_at(index) {
+            Some(number) => match registry.hold(party.number(), number) {
+                Ok(()) => Ok(Some(RegisteredType {
+                    engine,
+                    index,
+                    number,
+                    party: party.number(),
+                })),
+                Err(full) => Err(full),
+            },
+            None => Ok(None),
+        }
+    }
+
+    /// One more hold of the same type, by the same party. It is refused exactly where the party's holds of
+    /// the type's group would pass the limit. It takes no memory.
+    pub fn try_clone(
+        &self,
+        registry: &mut TypeRegistry,
+        party: &mut PartyNumber,
+    ) -> Result<RegisteredType, Full>
+        requires owner { party.old ≡ self.now.party }
+        requires held { IsHeld registry.old self.now }
+        ensures copy { IfOk result (λ copy. copy ≡ self.now) }
+        ensures held { IfOk result (λ copy. IsHeld registry.new copy) }
+        ensures ok { IfOk result (λ copy. hold registry.old party.old self.now.number ≡ Ok registry.new) }
+        ensures full { (full : _) → result ≡ Err full → hold registry.old party.old self.now.number ≡ Err full }
+        ensures err { OnErr result (registry.new ≡ registry.old) }
+        ensures same_party { party.new ≡ party.old }
+        ensures sound { IsSound registry.new }
+    {
+        registry.assure();
+        match registry.hold(party.number(), self.number) {
+            Ok(()) => Ok(RegisteredType {
+                engine: self.engine,
+                index: self.index,
+                number: self.number,
+                party: self.party,
+            }),
+            Err(full) => Err(full),
+        }
+    }
+
+    /// The number of the engine.
+    pub fn engine(&self) -> u64
+        ensures { result ≡ self.now.engine }
+    {
+        self.engine
+    }
+
     /// The index of the type.
     pub fn index(&self) -> VMSharedTypeIndex
         ensures { result ≡ self.now.index }
     {
         self.index
+    }
+
+    /// The registration number of the type's group.
+    pub fn number(&self) -> u64
+        ensures { result ≡ self.now.number }
+    {
+        self.number
+    }
+
+    /// The number of the party that has the hold.
+    pub fn party(&self) -> u32
+        ensures { result ≡ self.now.party }
+    {
+        self.party
+    }
+
+    /// The type.
+    pub fn ty<'r>(&self, registry: &'r TypeRegistry) -> &'r WasmSubType
+        requires { IsSome (locate registry.now.made self.now.index) }
+        ensures { sub_type_at registry.now.made self.now.index ≡ Some result.now }
+    {
+        registry.borrow(self.index).unwrap()
+    }
+
+    /// Ends the hold. Where nobody holds the type's group any more, the group waits for a sweep, and the
+    /// answer is the debt. It takes no memory, and is never refused.
+    pub fn decref(self, registry: &mut TypeRegistry, party: &mut PartyNumber) -> Option<Debt>
+        requires owner { party.old ≡ self.party }
+        requires held { IsHeld registry.old self }
+        ensures dropped { drop_of registry.old party.old self.number ≡ (result, registry.new) }
+        ensures same_party { party.new ≡ party.old }
+        ensures sound { IsSound registry.new }
+    {
+        let number = self.number;
+        self.forget();
+        registry.end_hold(party.number(), number)
     }
 
     /// Spends the hold at the moment at which its registry is given up. It changes no registry and takes
@@ -113,7 +264,7 @@ impl RegisteredType {
 #[cfg(test)]
 mod tests {
     use super::*;
-    use crate::refusal::Full;
+    use crate::debt::Swept;
     use std::alloc::Global;
     use std::process::Abort;
     use std::test::Fail;
@@ -156,6 +307,8 @@ mod tests {
         requires party { party.old < registry.old.engine.limits.parties }
         ensures engine { registry.new.engine ≡ registry.old.engine }
         ensures party { party.new ≡ party.old }
+        ensures owner { IfOk result (λ hold. hold.party ≡ party.new) }
+        ensures held { IfOk result (λ hold. IsHeld registry.new hold) }
     {
         let ty = function(alloc, given, returned)?;
         RegisteredType::new(registry, party, ty)
@@ -249,6 +402,150 @@ mod tests {
         first.forget();
         again.forget();
         second.forget();
+        Ok(())
+    }
+
+    /// Ends a hold that is the last one of its group.
+    fn debt_of(
+        rt: &impl Abort,
+        registry: &mut TypeRegistry,
+        party: &mut PartyNumber,
+        hold: RegisteredType,
+    ) -> Debt
+        requires owner { party.old ≡ hold.party }
+        requires held { IsHeld registry.old hold }
+        ensures engine { registry.new.engine ≡ registry.old.engine }
+        ensures party { party.new ≡ party.old }
+    {
+        hold.decref(registry, party)
+            .expect(rt, "nobody holds the group now")
+    }
+
+    /// One more hold of the type with index 0.
+    fn first_rooted(
+        rt: &impl Abort,
+        registry: &mut TypeRegistry,
+        party: &mut PartyNumber,
+    ) -> RegisteredType
+        requires { party.old < registry.old.engine.limits.parties }
+        ensures engine { registry.new.engine ≡ registry.old.engine }
+        ensures party { party.new ≡ party.old }
+        ensures owner { result.party ≡ party.new }
+        ensures held { IsHeld registry.new result }
+    {
+        let found = RegisteredType::try_root(registry, party, VMSharedTypeIndex::new(0));
+        found
+            .expect(rt, "the limit is far")
+            .expect(rt, "it is registered")
+    }
+
+    #[test]
+    fn a_group_waits_from_its_last_drop_to_its_sweep(rt: HostRuntime) -> Result<(), Fail> {
+        let limits = EngineLimits::USUAL;
+        assert!(rt; limits.valid());
+        let mut registry = TypeRegistry::new(rt.alloc(), &Engine::new(1, limits, true));
+        let mut party = PartyNumber::new(0);
+        let (given, returned) = (WasmValType::I32, WasmValType::I64);
+        let alloc = rt.alloc();
+        let hold = registered(alloc, &mut registry, &mut party, given, returned).expect(&rt, "new");
+        let debt = debt_of(&rt, &mut registry, &mut party, hold);
+        assert_eq!(rt; debt.number(), 1);
+        assert!(rt; registry.contains(VMSharedTypeIndex::new(0)));
+        assert_eq!(rt; registry.sweep(debt), Swept::Removed(1));
+        assert!(rt; !registry.contains(VMSharedTypeIndex::new(0)));
+        let again = registered(alloc, &mut registry, &mut party, given, returned).expect(
+            &rt, "new",
+        );
+        assert_eq!(rt; (again.index().bits(), again.number()), (0, 2));
+        again.forget();
+        Ok(())
+    }
+
+    #[test]
+    fn a_sweep_keeps_what_is_held_again(rt: HostRuntime) -> Result<(), Fail> {
+        let limits = EngineLimits::USUAL;
+        assert!(rt; limits.valid());
+        let mut registry = TypeRegistry::new(rt.alloc(), &Engine::new(1, limits, true));
+        let mut party = PartyNumber::new(0);
+        let (given, returned) = (WasmValType::I32, WasmValType::I64);
+        let alloc = rt.alloc();
+        let hold = registered(alloc, &mut registry, &mut party, given, returned).expect(&rt, "new");
+        let first = debt_of(&rt, &mut registry, &mut party, hold);
+        let hold = first_rooted(&rt, &mut registry, &mut party);
+        assert_eq!(rt; registry.sweep(first), Swept::Kept);
+        assert!(rt; registry.contains(VMSharedTypeIndex::new(0)));
+        hold.forget();
+        Ok(())
+    }
+
+    #[test]
+    fn a_second_sweep_of_a_group_finds_it_gone(rt: HostRuntime) -> Result<(), Fail> {
+        let limits = EngineLimits::USUAL;
+        assert!(rt; limits.valid());
+        let mut registry = TypeRegistry::new(rt.alloc(), &Engine::new(1, limits, true));
+        let mut party = PartyNumber::new(0);
+        let (given, returned) = (WasmValType::I32, WasmValType::I64);
+        let alloc = rt.alloc();
+        let hold = registered(alloc, &mut registry, &mut party, given, returned).expect(&rt, "new");
+        let first = debt_of(&rt, &mut registry, &mut party, hold);
+        let hold = first_rooted(&rt, &mut registry, &mut party);
+        let second = debt_of(&rt, &mut registry, &mut party, hold);
+        assert_eq!(rt; registry.sweep(first), Swept::Removed(1));
+        let again = registered(alloc, &mut registry, &mut party, given, returned).expect(
+            &rt, "new",
+        );
+        assert_eq!(rt; again.index().bits(), 0);
+        assert_eq!(rt; registry.sweep(second), Swept::Gone);
+        assert!(rt; registry.contains(VMSharedTypeIndex::new(0)));
+        again.forget();
+        Ok(())
+    }
+
+    #[test]
+    fn a_party_has_no_more_holds_than_the_limit(rt: HostRuntime) -> Result<(), Fail> {
+        let limits = EngineLimits {
+            holds: 1,
+            ..EngineLimits::USUAL
+        };
+        assert!(rt; limits.valid());
+        let mut registry = TypeRegistry::new(rt.alloc(), &Engine::new(1, limits, true));
+        let mut party = PartyNumber::new(0);
+        let (given, returned) = (WasmValType::I32, WasmValType::I64);
+        let alloc = rt.alloc();
+        let hold = registered(alloc, &mut registry, &mut party, given, returned).expect(&rt, "new");
+        let full = Full {
+            limit: Limit::Holds,
+            bound: 1,
+            wanted: 2,
+        };
+        match hold.try_clone(&mut registry, &mut party) {
+            Ok(copy) => {
+                copy.forget();
+                assert!(rt; false, "it was taken");
+            }
+            Err(refused) => assert_eq!(rt; refused, full),
+        }
+        let again = registered(alloc, &mut registry, &mut party, given, returned);
+        is_refused(&rt, again, full);
+        hold.forget();
+        Ok(())
+    }
+
+    #[test]
+    fn a_free_index_cannot_be_rooted(rt: HostRuntime) -> Result<(), Fail> {
+        let limits = EngineLimits::USUAL;
+        assert!(rt; limits.valid());
+        let mut registry = TypeRegistry::new(rt.alloc(), &Engine::new(1, limits, true));
+        let mut party = PartyNumber::new(0);
+        let free = VMSharedTypeIndex::new(0);
+        match RegisteredType::try_root(&mut registry, &mut party, free) {
+            Ok(None) => (),
+            Ok(Some(hold)) => {
+                hold.forget();
+                assert!(rt; false, "there was a hold");
+            }
+            Err(_) => assert!(rt; false, "it was refused"),
+        }
         Ok(())
     }
 }

@@ -1,9 +1,13 @@
 //! The registry: the groups that stand in it, and what can be asked of it.
 
-use crate::entry::{Entry, Given};
-use crate::groups::{borrow_from, enter_group, live_groups};
+use crate::debt::{Debt, Swept};
+use crate::enter::{hold_one, register_group};
+use crate::entry::Given;
+use crate::groups::Groups;
 use crate::live::LiveGroup;
-use crate::refusal::BuildRefusal;
+use crate::refusal::{BuildRefusal, Full};
+use crate::search::{borrow_from, live_groups, number_at};
+use crate::sweeping::{end_hold, sweep_group};
 use std::alloc::Global;
 use std::marker::Model;
 use wt_env::limits::Engine;
@@ -16,26 +20,26 @@ use wt_env::types::{VMSharedTypeIndex, WasmRecGroup, WasmSubType};
 pub struct TypeRegistry {
     alloc: Global,
     engine: Engine,
-    entries: Vec<Entry>,
-    given: Given,
+    groups: Groups,
 }
 
 impl Model for TypeRegistry {
     ghost use Rattle.wt_registry.specs.Registry.{Registry};
-    ghost use Rattle.wt_registry.specs.Entries.{registry_of, IsKept};
+    ghost use Rattle.wt_registry.specs.Entries.{registry_at, AreKept};
 
     ghost Value = { Registry };
 
-    ghost view = { λ registry. registry_of registry.engine registry.entries.items registry.given };
+    ghost view = { λ registry. registry_at registry.engine registry.groups };
 
-    ghost invariant = { λ registry. IsKept registry.engine registry.entries.items registry.given };
+    ghost invariant = { λ registry. AreKept registry.engine registry.groups };
 }
 
 impl TypeRegistry {
-    ghost use Rattle.std.specs.Prelude.{◌≡◌, ◌∷◌, [], ◌↔◌, IsTrue, IsSome, IfOk, OnErr, Ok, Err, Some, true};
+    ghost use Rattle.std.specs.Prelude.{◌≡◌, ◌<◌, ◌≤◌, ◌∷◌, [], ◌↔◌, IsTrue, IsSome, IfOk, OnOk, OnErr, Ok, Err, Some, true, option_map};
     ghost use Rattle.std.specs.Option.{option_copied};
     ghost use Rattle.wt_tree.specs.NumberFunction.{is_number_function};
-    ghost use Rattle.wt_registry.specs.Registry.{IsSound, empty_registry, locate, sub_type_at, describe, enter, closed_tree, tree_of};
+    ghost use Rattle.wt_registry.specs.Registry as registry;
+    ghost use Rattle.wt_registry.specs.Registry.{IsSound, empty_registry, locate, sub_type_at, describe, registered, hold, held_at, closed_tree, tree_of};
     ghost use Rattle.wt_registry.specs.Entries.{entered_as};
     ghost use Rattle.wt_registry.specs.Live.{live_of};
 
@@ -47,11 +51,14 @@ impl TypeRegistry {
         TypeRegistry {
             alloc,
             engine: *engine,
-            entries: Vec::new(alloc),
-            given: Given {
-                numbers: 0,
-                types: 0,
-                references: 0,
+            groups: Groups {
+                entries: Vec::new(alloc),
+                counts: Vec::new(alloc),
+                given: Given {
+                    numbers: 0,
+                    types: 0,
+                    references: 0,
+                },
             },
         }
     }
@@ -63,7 +70,7 @@ impl TypeRegistry {
         &self.engine
     }
 
-    /// Whether the index names a registered type. The reserved index names none.
+    /// Whether the index names a registered type.
     pub fn contains(&self, index: VMSharedTypeIndex) -> bool
         ensures { IsTrue result ↔ IsSome (locate self.now.made index) }
     {
@@ -75,26 +82,48 @@ impl TypeRegistry {
         ensures value { option_copied result ≡ sub_type_at self.now.made index }
         ensures found { IsSome result ↔ IsSome (locate self.now.made index) }
     {
-        borrow_from(self.entries.as_slice(), index)
+        borrow_from(self.groups.entries.as_slice(), index)
     }
 
     /// The registered groups, in order of their registration numbers.
     pub fn live(&self) -> Result<Seq<LiveGroup>, OutOfMemory>
         ensures { IfOk result (λ groups. groups ≡ live_of self.now.made) }
     {
-        live_groups(self.alloc, self.entries.as_slice())
+        live_groups(self.alloc, self.groups.entries.as_slice())
     }
 
-    /// The registration number and the index of the group of this one type, which is registered now if
-    /// it wasn't.
-    pub(crate) fn enter(
+    /// What holds of each registry, told where nothing of it is read.
+    pub(crate) fn assure(&self)
+        ensures { IsSound self.now }
+    {
+        let _standing = &self.groups;
+    }
+
+    /// Sweeps a debt. A group that still waits is removed, and the answer says how many groups left. It is
+    /// `Kept` where the group is registered and doesn't wait, and `Gone` where that registration is no longer
+    /// there. It takes no memory, and is never refused.
+    pub fn sweep(&mut self, debt: Debt) -> Swept
+        ensures swept { registry.sweep self.old debt ≡ (result, self.new) }
+        ensures sound { IsSound self.new }
+    {
+        let number = debt.number();
+        debt.forget();
+        let _bounded = self.engine.limits();
+        sweep_group(&mut self.groups, number)
+    }
+
+    /// One more hold of a party on the group of this one type, which is registered now if it wasn't. Answers
+    /// its registration number and the index of its type.
+    pub(crate) fn register(
         &mut self,
+        party: u32,
         ty: WasmSubType,
     ) -> Result<(u64, VMSharedTypeIndex), BuildRefusal>
-        requires { is_number_function ty ≡ true }
-        ensures ok { IfOk result (λ entered. enter self.old (describe self.old.made (ty ∷ []))
+        requires plain { is_number_function ty ≡ true }
+        requires party { party < self.old.engine.limits.parties }
+        ensures ok { IfOk result (λ entered. registered self.old party (describe self.old.made (ty ∷ []))
             ≡ Ok (entered_as entered.0 (describe self.old.made (ty ∷ [])) entered.1, self.new)) }
-        ensures full { (full : _) → result ≡ Err (BuildRefusal.Full full) → enter self.old (describe self.old.made (ty ∷ [])) ≡ Err full }
+        ensures full { (full : _) → result ≡ Err (BuildRefusal.Full full) → registered self.old party (describe self.old.made (ty ∷ [])) ≡ Err full }
         ensures named { IfOk result (λ entered. closed_tree self.new.made entered.1
             ≡ Some (record { tree = tree_of self.old.made (ty ∷ []); place = 0 })) }
         ensures err { OnErr result (self.new ≡ self.old) }
@@ -103,12 +132,35 @@ impl TypeRegistry {
         let group = WasmRecGroup {
             types: Seq::one(self.alloc, ty)?,
         };
-        enter_group(
-            self.alloc,
-            &self.engine,
-            &mut self.entries,
-            &mut self.given,
-            group,
-        )
+        register_group(self.alloc, &self.engine, &mut self.groups, party, group)
+    }
+
+    /// The registration number of the group of the type that has this index.
+    pub(crate) fn number_at(&self, index: VMSharedTypeIndex) -> Option<u64>
+        ensures { result ≡ option_map (λ at. at.0) (locate self.now.made index) }
+    {
+        number_at(self.groups.entries.as_slice(), index)
+    }
+
+    /// One more hold of a party on a registered group. It takes no memory.
+    pub(crate) fn hold(&mut self, party: u32, number: u64) -> Result<(), Full>
+        requires { party < self.old.engine.limits.parties }
+        ensures ok { OnOk result (hold self.old party number ≡ Ok self.new) }
+        ensures full { (full : _) → result ≡ Err full → hold self.old party number ≡ Err full }
+        ensures err { OnErr result (self.new ≡ self.old) }
+        ensures sound { IsSound self.new }
+    {
+        hold_one(&self.engine, &mut self.groups.counts, party, number)
+    }
+
+    /// Ends a hold of a party on a group. Where nobody holds the group any more, it waits, and the party
+    /// owes a sweep of it. It takes no memory.
+    pub(crate) fn end_hold(&mut self, party: u32, number: u64) -> Option<Debt>
+        requires party { party < self.old.engine.limits.parties }
+        requires held { 1 ≤ held_at self.old.standings party number }
+        ensures dropped { registry.drop self.old party number ≡ (result, self.new) }
+        ensures sound { IsSound self.new }
+    {
+        end_hold(&self.engine, &mut self.groups, party, number)
     }
 }

@@ -1,5 +1,5 @@
 -- The types that the host describes are functions over numbers.
-use Rattle.std.proofs.Common.{◌≡◌, Bool, true, false, ◌&&◌, List, [], ◌∷◌, map, refl, ap, ◌∙◌}
+use Rattle.std.proofs.Common.{◌≡◌, true, ◌&&◌, List, [], ◌∷◌, map, refl}
 use Rattle.std.specs.List.{list_all}
 use Rattle.wt_tree.specs.NumberFunction.{is_number, is_number_function}
 use Rattle.wt_session.specs.declared.command.HostVal.{HostVal}

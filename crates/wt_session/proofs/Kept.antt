@@ -1,14 +1,14 @@
 -- What is kept true of a session: that the registered groups are those reached, and that a registration keeps it.
-use Rattle.std.proofs.Common.{◌≡◌, ℕ, zero, suc, ◌+◌, ◌-◌, ◌≤◌, ◌⊎◌, inl, inr, List, [], ◌∷◌, ◌++◌, length, replicate, Result, Ok, Err, IfOk, refl, sym, ap, subst, ◌∙◌}
+use Rattle.std.proofs.Common.{◌≡◌, ℕ, zero, suc, ◌-◌, ◌≤◌, ◌⊎◌, inl, inr, List, [], ◌∷◌, ◌++◌, replicate, Result, Ok, Err, IfOk, refl, sym, ap, subst, ◌∙◌}
 use Rattle.std.specs.List.{flat_map}
 use Rattle.std.proofs.lemmas.Grind.{flat_map-append}
 use Rattle.wt_registry.specs.declared.refusal.Full.{Full}
-use Rattle.wt_registry.specs.Registry.{Made, Registry, Hold, Among, NamesOlder, IsSound, Grows}
-use Rattle.wt_registry.specs.Reach.{Edge, Reach, here, further}
+use Rattle.wt_registry.specs.Registry.{Made, Registry, Hold, Among, NamesOlder, IsSound, Grows, waiting}
+use Rattle.wt_registry.specs.Reach.{Reach, here, further}
 use Rattle.wt_session.specs.declared.handle.Handle.{Handle}
 use Rattle.wt_session.specs.declared.handle.Handle.TheVariants as handle
 use Rattle.wt_session.specs.declared.reply.Reply.{Reply}
-use Rattle.wt_session.specs.World.{World, held_by, held_in, holds, no_counts, IsReached, HasExactlyReached}
+use Rattle.wt_session.specs.World.{held_by, held_in, holds, no_counts, HasExactlyReached}
 use Rattle.wt_session.specs.Run.{type_made}
 use Rattle.wt_session.specs.Session.{world_of, IsKept, row_after, Extends}
 
@@ -47,10 +47,10 @@ reach_registered made older root number at (further to next reach edge) =
     let named = older edge.0 (number, edge.1) edge.2 edge.4 in
     (named.1, named.2, named.3)
 
-holds_of : (registry : Registry) (row : List Handle) → registry.waiting ≡ [] → holds (world_of registry row) ++ registry.waiting ≡ (held_in row ++ []) ++ []
-holds_of registry row waiting =
+holds_of : (registry : Registry) (row : List Handle) → waiting registry.standings ≡ [] → holds (world_of registry row) ++ waiting registry.standings ≡ (held_in row ++ []) ++ []
+holds_of registry row none =
     let others = none_held (registry.engine.limits.parties - 1) in
-    λ i. (held_in row ++ others i) ++ waiting i
+    λ i. (held_in row ++ others i) ++ none i
 
 pub reached : (registry : Registry) (row : List Handle) (party : ℕ) → IsKept registry row party → HasExactlyReached (world_of registry row)
 reached registry row party kept = record {
@@ -71,8 +71,8 @@ every_same : (old new : Registry) (row row' : List Handle) → ((group : Made) �
 every_same old new row row' every same rows group at =
     subst (λ r. Among group.number (held_in r)) (sym rows) (every group (subst (Among group) same at))
 
-every_more : (old new : Registry) (row row' : List Handle) (hold : Hold) → ((group : Made) → Among group old.made → Among group.number (held_in row)) → row' ≡ row ++ handle.Type hold ∷ [] → Grows old new hold.number → (group : Made) → Among group new.made → Among group.number (held_in row')
-every_more old new row row' hold every rows grows group at =
+every_more : (old new : Registry) (row row' : List Handle) (party : ℕ) (hold : Hold) → ((group : Made) → Among group old.made → Among group.number (held_in row)) → row' ≡ row ++ handle.Type hold ∷ [] → Grows old new party hold.number → (group : Made) → Among group new.made → Among group.number (held_in row')
+every_more old new row row' party hold every rows grows group at =
     subst (Among group.number) (sym (ap held_in rows ∙ held_more row hold)) (by grows.made)
   where
     by : (new.made ≡ old.made) ⊎ ((added : Made) × (new.made ≡ old.made ++ added ∷ []) × (added.number ≡ hold.number)) → Among group.number (held_in row ++ hold.number ∷ [])
@@ -87,8 +87,8 @@ only_same old new row row' only same rows number at =
     let found = only number (subst (λ r. Among number (held_in r)) rows at) in
     (found.0, subst (Among found.0) (sym same) found.1, found.2)
 
-only_more : (old new : Registry) (row row' : List Handle) (hold : Hold) → ((number : ℕ) → Among number (held_in row) → (group : Made) × Among group old.made × (group.number ≡ number)) → row' ≡ row ++ handle.Type hold ∷ [] → Grows old new hold.number → (number : ℕ) → Among number (held_in row') → (group : Made) × Among group new.made × (group.number ≡ number)
-only_more old new row row' hold only rows grows number at =
+only_more : (old new : Registry) (row row' : List Handle) (party : ℕ) (hold : Hold) → ((number : ℕ) → Among number (held_in row) → (group : Made) × Among group old.made × (group.number ≡ number)) → row' ≡ row ++ handle.Type hold ∷ [] → Grows old new party hold.number → (number : ℕ) → Among number (held_in row') → (group : Made) × Among group new.made × (group.number ≡ number)
+only_more old new row row' party hold only rows grows number at =
     elim (among_either (held_in row) (hold.number ∷ []) number (subst (Among number) (ap held_in rows ∙ held_more row hold) at)) [
       | inl before ↦ still (only number before)
       | inr last ↦ (grows.registered.0, grows.registered.1, grows.registered.2 ∙ sym (among_one number hold.number last))
@@ -101,25 +101,29 @@ only_more old new row row' hold only rows grows number at =
     still : (group : Made) × Among group old.made × (group.number ≡ number) → (group : Made) × Among group new.made × (group.number ≡ number)
     still found = (found.0, kept found.0 found.1 grows.made, found.2)
 
-kept_by : (old new : Registry) (row row' : List Handle) (party party' : ℕ) → IsKept old row party → IsSound new → party' ≡ party → new.engine ≡ old.engine → new.waiting ≡ old.waiting → ((new.made ≡ old.made) × (row' ≡ row)) ⊎ ((hold : Hold) × (row' ≡ row ++ handle.Type hold ∷ []) × Grows old new hold.number) → IsKept new row' party'
-kept_by old new row row' party party' kept sound parties engine waiting (inl same) = record {
+none_waits : (numbers : List ℕ) → ((n : ℕ) → Among n numbers → Among n []) → numbers ≡ []
+none_waits [] none = refl
+none_waits (n ∷ numbers) none = absurd (none n (inl refl))
+
+kept_by : (old new : Registry) (row row' : List Handle) (party party' : ℕ) → IsKept old row party → IsSound new → party' ≡ party → new.engine ≡ old.engine → ((n : ℕ) → Among n (waiting new.standings) → Among n (waiting old.standings)) → ((new.made ≡ old.made) × (row' ≡ row)) ⊎ ((hold : Hold) × (row' ≡ row ++ handle.Type hold ∷ []) × Grows old new party hold.number) → IsKept new row' party'
+kept_by old new row row' party party' kept sound parties engine still (inl same) = record {
   sound = sound;
   party_0 = parties ∙ kept.party_0;
   parties = subst (λ e. 1 ≤ e.limits.parties) (sym engine) kept.parties;
-  waiting = waiting ∙ kept.waiting;
+  waiting = none_waits (waiting new.standings) (λ n at. subst (Among n) kept.waiting (still n at));
   every = every_same old new row row' kept.every same.0 same.1;
   only = only_same old new row row' kept.only same.0 same.1;
 }
-kept_by old new row row' party party' kept sound parties engine waiting (inr more) = record {
+kept_by old new row row' party party' kept sound parties engine still (inr more) = record {
   sound = sound;
   party_0 = parties ∙ kept.party_0;
   parties = subst (λ e. 1 ≤ e.limits.parties) (sym engine) kept.parties;
-  waiting = waiting ∙ kept.waiting;
-  every = every_more old new row row' more.0 kept.every more.1 more.2;
-  only = only_more old new row row' more.0 kept.only more.1 more.2;
+  waiting = none_waits (waiting new.standings) (λ n at. subst (Among n) kept.waiting (still n at));
+  every = every_more old new row row' party more.0 kept.every more.1 more.2;
+  only = only_more old new row row' party more.0 kept.only more.1 more.2;
 }
 
-pub kept_on : (old new : Registry) (row row' : List Handle) (party party' : ℕ) → IsKept old row party → (IsSound old → IsSound new) → party' ≡ party → Extends old row new row' → IsKept new row' party'
+pub kept_on : (old new : Registry) (row row' : List Handle) (party party' : ℕ) → IsKept old row party → (IsSound old → IsSound new) → party' ≡ party → Extends old row party new row' → IsKept new row' party'
 kept_on old new row row' party party' kept sound parties extends =
     kept_by old new row row' party party' kept (sound kept.sound) parties extends.engine extends.waiting extends.change
 

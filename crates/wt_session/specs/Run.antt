@@ -1,5 +1,5 @@
 -- What a session answers to commands, and what they change.
-use Rattle.std.specs.Prelude.{ℕ, List, [], ◌∷◌, ◌++◌, length, map, true, Option, None, Result, Ok, Err}
+use Rattle.std.specs.Prelude.{ℕ, List, [], ◌∷◌, length, map, true, None, Result, Ok, Err}
 use Rattle.wt_env.specs.declared.types.WasmValType.{WasmValType}
 use Rattle.wt_env.specs.declared.types.WasmValType.TheVariants as val
 use Rattle.wt_env.specs.declared.types.WasmCompositeInnerType.TheVariants as shape

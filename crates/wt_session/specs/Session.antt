@@ -1,8 +1,8 @@
 -- The session that the fields stand for, and what is kept true of them.
-use Rattle.std.specs.Prelude.{◌≡◌, ℕ, ◌+◌, ◌-◌, ◌≤◌, ◌⊎◌, List, [], ◌∷◌, ◌++◌, length, replicate, Result, Ok, Err}
+use Rattle.std.specs.Prelude.{◌≡◌, ℕ, ◌-◌, ◌≤◌, ◌⊎◌, List, [], ◌∷◌, ◌++◌, length, replicate, Result, Ok, Err}
 use Rattle.wt_env.specs.Limits.{EngineParts}
 use Rattle.wt_registry.specs.declared.refusal.Full.{Full}
-use Rattle.wt_registry.specs.Registry.{Made, Registry, Hold, Among, IsSound, Grows, empty_registry}
+use Rattle.wt_registry.specs.Registry.{Made, Registry, Hold, Among, IsSound, Grows, waiting, empty_registry}
 use Rattle.wt_session.specs.declared.handle.Handle.{Handle}
 use Rattle.wt_session.specs.declared.handle.Handle.TheVariants as handle
 use Rattle.wt_session.specs.declared.reply.Refusal.TheVariants as refusal
@@ -31,7 +31,7 @@ pub record IsKept (registry : Registry) (row : List Handle) (party : ℕ) : Type
   pub sound : IsSound registry
   pub party_0 : party ≡ 0
   pub parties : 1 ≤ registry.engine.limits.parties
-  pub waiting : registry.waiting ≡ []
+  pub waiting : waiting registry.standings ≡ []
   pub every : (group : Made) → Among group registry.made → Among group.number (held_in row)
   pub only : (number : ℕ) → Among number (held_in row) → (group : Made) × Among group registry.made × (group.number ≡ number)
 
@@ -43,7 +43,7 @@ row_after row registry (Err full) = (reply.Refused (refusal.Full full), (registr
 
 -- After a registration the engine is the same and nothing more waits. Either nothing changed, or the party
 -- has one more handle, on a registered group, and no other group was added.
-pub record Extends (old : Registry) (row : List Handle) (new : Registry) (row' : List Handle) : Type 0 where
+pub record Extends (old : Registry) (row : List Handle) (party : ℕ) (new : Registry) (row' : List Handle) : Type 0 where
   pub engine : new.engine ≡ old.engine
-  pub waiting : new.waiting ≡ old.waiting
-  pub change : ((new.made ≡ old.made) × (row' ≡ row)) ⊎ ((hold : Hold) × (row' ≡ row ++ handle.Type hold ∷ []) × Grows old new hold.number)
+  pub waiting : (n : ℕ) → Among n (waiting new.standings) → Among n (waiting old.standings)
+  pub change : ((new.made ≡ old.made) × (row' ≡ row)) ⊎ ((hold : Hold) × (row' ≡ row ++ handle.Type hold ∷ []) × Grows old new party hold.number)

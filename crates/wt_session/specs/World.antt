@@ -1,7 +1,7 @@
 -- A session as contracts see it, and which groups are registered in it.
 use Rattle.std.specs.Prelude.{◌≡◌, ℕ, zero, suc, List, [], ◌∷◌, ◌++◌}
 use Rattle.std.specs.List.{flat_map}
-use Rattle.wt_registry.specs.Registry.{Made, Registry, Hold, Among, IsRising}
+use Rattle.wt_registry.specs.Registry.{Made, Registry, Among, IsRising, waiting}
 use Rattle.wt_registry.specs.Reach.{Reach}
 use Rattle.wt_session.specs.declared.handle.Handle.{Handle}
 use Rattle.wt_session.specs.declared.handle.Handle.TheVariants as handle
@@ -36,7 +36,7 @@ holds world = flat_map held_in world.handles
 -- a number that is reached from a held number or from one that waits for a sweep
 abbrev pub IsReached : World → ℕ → Type 0
 IsReached world number =
-    (root : ℕ) × Among root (holds world ++ world.registry.waiting) × Reach world.registry.made root number
+    (root : ℕ) × Among root (holds world ++ waiting world.registry.standings) × Reach world.registry.made root number
 
 -- the registered groups, in order of their numbers, are exactly those reached
 pub record HasExactlyReached (world : World) : Type 0 where

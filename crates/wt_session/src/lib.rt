@@ -4,6 +4,7 @@
 pub mod command;
 pub mod handle;
 mod host;
+pub mod laws;
 mod registration;
 pub mod reply;
 pub mod run;

@@ -29,7 +29,7 @@ pub(crate) fn register_type(
     ensures err { OnErr result ((registry.new ≡ registry.old) × (row.new.items ≡ row.old.items)) }
     ensures party { party.new ≡ party.old }
     ensures sound { IsSound registry.old → IsSound registry.new }
-    ensures grows { Extends registry.old row.old.items registry.new row.new.items }
+    ensures grows { Extends registry.old row.old.items party.old registry.new row.new.items }
 {
     row.reserve(1)?;
     let ty = sub_type(alloc, sub)?;

@@ -1,12 +1,26 @@
--- what the registry says of the group that it entered
-use Rattle.std.proofs.Common.{[], ◌∷◌}
-use Rattle.wt_registry.specs.Registry.{describe}
+-- an accepted registration grows a sound registry
+use Rattle.std.proofs.Common.{ℕ, ◌∷◌, [], ap, sym, ◌∙◌, arith}
+use Rattle.wt_env.specs.Limits.{EngineParts}
+use Rattle.wt_registry.specs.Registry.{registered, describe, held_at}
 use Rattle.wt_registry.specs.Entries.{entered_as}
-use Rattle.wt_registry.proofs.Grows.{enter-grows}
+use Rattle.wt_registry.proofs.Grows.{registered-grows}
 use Rattle.wt_registry.proofs.registered_type.RegisteredType.new.Goals as goal
 
 pub returns-clause-grows : goal.returns-clause-grows
 returns-clause-grows c =
-    let registry = c.args.registry.now in
-    let described = describe registry.made (c.args.ty ∷ []) in
-    enter-grows registry c.enter.new.self described (entered_as c.in_ok-number.number described c.in_ok-number.index) c.in_ok-number.ensures.ok
+    let old = c.args.registry.now in
+    let description = describe old.made (c.args.ty ∷ []) in
+    registered-grows old c.register.new.self c.args.party.now description (entered_as c.in_ok-number.number description c.in_ok-number.index) c.assure.ensures c.requires.party
+    (ap (λ (party : ℕ). registered old party description) (sym c.number.ensures) ∙ c.in_ok-number.ensures.ok)
+
+pub returns-clause-held : goal.returns-clause-held
+returns-clause-held c =
+    let grows = returns-clause-grows c in
+    let more = grows.more in
+    let same = ap (λ (party : ℕ). held_at c.register.new.self.standings party c.in_ok-number.number) c.number-2.ensures in
+    let parties = ap (λ (e : EngineParts). e.limits.parties) grows.engine in
+    record {
+      engine = ap (λ (e : EngineParts). e.number) grows.engine ∙ ap (λ (e : EngineParts). e.number) (sym c.engine.ensures) ∙ sym c.number-engine.ensures;
+      party = omega (arith, parties, c.number-2.ensures, c.requires.party);
+      held = omega (arith, more, same);
+    }

@@ -1,6 +1,5 @@
 -- an index is that of a type exactly where it is located
-use Rattle.std.proofs.Common.{◌≡◌, Bool, Option, Some, None, is_some, option_map, refl, sym, ap, ◌∙◌}
-use Rattle.std.specs.Option.{option_copied}
+use Rattle.std.proofs.Common.{◌≡◌, Option, Some, None, is_some, option_map, refl, sym, ap, ◌∙◌}
 use Rattle.wt_registry.specs.Registry.{Registry, locate, sub_type_at}
 use Rattle.wt_registry.specs.Entries.{made_by}
 use Rattle.wt_registry.proofs.Kept.{borrowed-located}
@@ -12,12 +11,12 @@ is_some-map f None = refl
 
 pub returns-clause-found : goal.returns-clause-found
 returns-clause-found c =
-    let entries = c.self.inside.entries.items in
+    let entries = c.self.inside.groups.entries.items in
     let i = c.args.index in
     let same : is_some c.borrow_from.result ≡ is_some (locate c.args.self.now.made i) =
     sym (is_some-map (λ x. x.now) c.borrow_from.result)
     ∙ ap is_some c.borrow_from.ensures
     ∙ ap (λ es. is_some (sub_type_at (made_by es) i)) c.as_slice.ensures.value
-    ∙ borrowed-located entries i c.self.invariant.plain
+    ∙ borrowed-located entries i c.self.invariant.entries.plain
     ∙ ap (λ (r : Registry). is_some (locate r.made i)) c.self.view_is in
     ((λ found. sym same ∙ found), (λ found. same ∙ found))

@@ -1,7 +1,6 @@
 -- a registration is the step that the definition says, and keeps what is kept
-use Rattle.std.proofs.Common.{◌≡◌, ℕ, List, sym, ap, subst, ◌∙◌}
+use Rattle.std.proofs.Common.{◌≡◌, sym, ap, subst, ◌∙◌}
 use Rattle.wt_registry.specs.Registry.{register}
-use Rattle.wt_session.specs.declared.reply.Reply.{Reply}
 use Rattle.wt_session.specs.Run.{sub_type_of, step}
 use Rattle.wt_session.specs.Session.{world_of, row_after}
 use Rattle.wt_session.proofs.Kept.{kept_on, type_row, if_ok_map}

@@ -1,0 +1,197 @@
+-- What the counts stand for, past those of other groups.
+use Rattle.std.proofs.Common.{◌≡◌, ℕ, ◌+◌, ◌<◌, ◌==◌, Bool, true, false, cond, not, ◌||◌, List, [], ◌∷◌, ◌++◌, length, set, slice_index, slice_set, get_or, Some, None, is_some, refl, ap, sym, ◌∙◌, subst, inl, inr}
+use Rattle.std.proofs.lemmas.List.{append-nil, map-append}
+use Rattle.std.specs.List.{position_from, list_any, remove}
+use Rattle.wt_registry.specs.declared.counts.Count.{Count}
+use Rattle.wt_registry.specs.declared.entry.Entry.{Entry}
+use Rattle.wt_registry.specs.Counts.{standing_of, standings_of, entries_without}
+use Rattle.wt_registry.specs.Entries.{made_of, made_by}
+use Rattle.wt_registry.specs.Registry.{Standing, Among, is_held, held_at, waits_at, change, gained, is_registered, made_without, standings_without}
+use Rattle.wt_registry.proofs.Standings.{is_held-raised}
+use Rattle.wt_registry.proofs.Found.{found_from, neither, none_found, found_item, found_set, found_remove}
+
+abbrev is_it : ℕ → Count → Bool
+is_it number count = count.number == number
+
+held_at-past : (party number : ℕ) (passed rest : List Count) → list_any (is_it number) passed ≡ false
+    → held_at (standings_of (passed ++ rest)) party number ≡ held_at (standings_of rest) party number
+held_at-past party number [] rest none = refl
+held_at-past party number (count ∷ passed) rest none =
+    let both = neither (count.number == number) (list_any (is_it number) passed) none in
+    let other = both.0 in
+    rw other (held_at-past party number passed rest both.1)
+
+waits_at-past : (number : ℕ) (passed rest : List Count) → list_any (is_it number) passed ≡ false
+    → waits_at (standings_of (passed ++ rest)) number ≡ waits_at (standings_of rest) number
+waits_at-past number [] rest none = refl
+waits_at-past number (count ∷ passed) rest none =
+    let both = neither (count.number == number) (list_any (is_it number) passed) none in
+    let other = both.0 in
+    rw other (waits_at-past number passed rest both.1)
+
+change-past : (number : ℕ) (f : Standing → Standing) (passed rest : List Count) → list_any (is_it number) passed ≡ false
+    → change number f (standings_of (passed ++ rest)) ≡ standings_of passed ++ change number f (standings_of rest)
+change-past number f [] rest none = refl
+change-past number f (count ∷ passed) rest none =
+    let both = neither (count.number == number) (list_any (is_it number) passed) none in
+    let other = both.0 in
+    rw other (ap (λ later. standing_of count ∷ later) (change-past number f passed rest both.1))
+
+without-past : (number : ℕ) (passed rest : List Count) → list_any (is_it number) passed ≡ false
+    → standings_without number (standings_of (passed ++ rest)) ≡ standings_of passed ++ standings_without number (standings_of rest)
+without-past number [] rest none = refl
+without-past number (count ∷ passed) rest none =
+    let both = neither (count.number == number) (list_any (is_it number) passed) none in
+    let other = both.0 in
+    rw other (ap (λ later. standing_of count ∷ later) (without-past number passed rest both.1))
+
+entries_without-past : (number : ℕ) (passed rest : List Entry) → list_any (λ entry. entry.number == number) passed ≡ false
+    → entries_without number (passed ++ rest) ≡ passed ++ entries_without number rest
+entries_without-past number [] rest none = refl
+entries_without-past number (entry ∷ passed) rest none =
+    let both = neither (entry.number == number) (list_any (λ e. e.number == number) passed) none in
+    let other = both.0 in
+    rw other (ap (λ later. entry ∷ later) (entries_without-past number passed rest both.1))
+
+-- with what was found between them
+
+held_at-split : (party number : ℕ) (passed : List Count) (x : Count) (rest : List Count) → list_any (is_it number) passed ≡ false → is_it number x ≡ true
+    → held_at (standings_of (passed ++ x ∷ rest)) party number ≡ slice_index x.holds.items party
+held_at-split party number passed x rest none here = held_at-past party number passed (x ∷ rest) none ∙ rw here refl
+
+waits_at-split : (number : ℕ) (passed : List Count) (x : Count) (rest : List Count) → list_any (is_it number) passed ≡ false → is_it number x ≡ true
+    → waits_at (standings_of (passed ++ x ∷ rest)) number ≡ not (is_held x.holds.items)
+waits_at-split number passed x rest none here = waits_at-past number passed (x ∷ rest) none ∙ rw here refl
+
+change-split : (number : ℕ) (f : Standing → Standing) (passed : List Count) (x : Count) (rest : List Count) → list_any (is_it number) passed ≡ false → is_it number x ≡ true
+    → change number f (standings_of (passed ++ x ∷ rest)) ≡ standings_of passed ++ f (standing_of x) ∷ standings_of rest
+change-split number f passed x rest none here = change-past number f passed (x ∷ rest) none ∙ rw here refl
+
+without-split : (number : ℕ) (passed : List Count) (x : Count) (rest : List Count) → list_any (is_it number) passed ≡ false → is_it number x ≡ true
+    → standings_without number (standings_of (passed ++ x ∷ rest)) ≡ standings_of passed ++ standings_of rest
+without-split number passed x rest none here = without-past number passed (x ∷ rest) none ∙ rw here refl
+
+entries_without-split : (number : ℕ) (passed : List Entry) (x : Entry) (rest : List Entry) → list_any (λ entry. entry.number == number) passed ≡ false → (x.number == number) ≡ true
+    → entries_without number (passed ++ x ∷ rest) ≡ passed ++ rest
+entries_without-split number passed x rest none here = entries_without-past number passed (x ∷ rest) none ∙ rw here refl
+
+-- ---- at a place
+
+pub held_at-found : (party number place : ℕ) (counts : List Count) (x : Count) → position_from (λ count. count.number == number) 0 counts ≡ Some place
+    → x ≡ get_or counts place x → slice_index x.holds.items party ≡ held_at (standings_of counts) party number
+held_at-found party number place counts x h e =
+    let found = found_from (is_it number) 0 place counts h in
+    ap (λ count. slice_index count.holds.items party) (found_item (is_it number) place counts h x e)
+    ∙ (sym (held_at-split party number found.passed found.item found.rest found.none_before found.passes)
+    ∙ ap (λ list. held_at (standings_of list) party number) (sym found.splits))
+
+pub held_at-none : (party number : ℕ) (counts : List Count) → position_from (λ count. count.number == number) 0 counts ≡ None
+    → 0 ≡ held_at (standings_of counts) party number
+held_at-none party number counts h =
+    sym (held_at-past party number counts [] (none_found (is_it number) 0 counts h))
+    ∙ ap (λ list. held_at (standings_of list) party number) (append-nil counts)
+
+pub waits_at-found : (number place : ℕ) (counts : List Count) (x : Count) → position_from (λ count. count.number == number) 0 counts ≡ Some place
+    → x ≡ get_or counts place x → not (is_held x.holds.items) ≡ waits_at (standings_of counts) number
+waits_at-found number place counts x h e =
+    let found = found_from (is_it number) 0 place counts h in
+    ap (λ count. not (is_held count.holds.items)) (found_item (is_it number) place counts h x e)
+    ∙ (sym (waits_at-split number found.passed found.item found.rest found.none_before found.passes)
+    ∙ ap (λ list. waits_at (standings_of list) number) (sym found.splits))
+
+pub waits_at-none : (number : ℕ) (counts : List Count) → position_from (λ count. count.number == number) 0 counts ≡ None
+    → false ≡ waits_at (standings_of counts) number
+waits_at-none number counts h =
+    sym (waits_at-past number counts [] (none_found (is_it number) 0 counts h))
+    ∙ ap (λ list. waits_at (standings_of list) number) (append-nil counts)
+
+pub change-found : (number place : ℕ) (f : Standing → Standing) (counts : List Count) (x y : Count) → position_from (λ count. count.number == number) 0 counts ≡ Some place
+    → x ≡ get_or counts place x → standing_of y ≡ f (standing_of x)
+    → standings_of (set counts place y) ≡ change number f (standings_of counts)
+change-found number place f counts x y h e changed =
+    let found = found_from (is_it number) 0 place counts h in
+    let there : standing_of y ≡ f (standing_of found.item) = changed ∙ ap (λ count. f (standing_of count)) (found_item (is_it number) place counts h x e) in
+    ap standings_of (found_set (is_it number) place counts h y)
+    ∙ (map-append standing_of found.passed (y ∷ found.rest)
+    ∙ (ap (λ standing. standings_of found.passed ++ standing ∷ standings_of found.rest) there
+    ∙ (sym (change-split number f found.passed found.item found.rest found.none_before found.passes)
+    ∙ ap (λ list. change number f (standings_of list)) (sym found.splits))))
+
+pub change-none : (number : ℕ) (f : Standing → Standing) (counts : List Count) → position_from (λ count. count.number == number) 0 counts ≡ None
+    → standings_of counts ≡ change number f (standings_of counts)
+change-none number f counts h =
+    sym (append-nil (standings_of counts))
+    ∙ (sym (change-past number f counts [] (none_found (is_it number) 0 counts h))
+    ∙ ap (λ list. change number f (standings_of list)) (append-nil counts))
+
+pub without-found : (number place : ℕ) (counts : List Count) → position_from (λ count. count.number == number) 0 counts ≡ Some place
+    → standings_of (remove counts place) ≡ standings_without number (standings_of counts)
+without-found number place counts h =
+    let found = found_from (is_it number) 0 place counts h in
+    ap standings_of (found_remove (is_it number) place counts h)
+    ∙ (map-append standing_of found.passed found.rest
+    ∙ (sym (without-split number found.passed found.item found.rest found.none_before found.passes)
+    ∙ ap (λ list. standings_without number (standings_of list)) (sym found.splits)))
+
+pub without-none : (number : ℕ) (counts : List Count) → position_from (λ count. count.number == number) 0 counts ≡ None
+    → standings_of counts ≡ standings_without number (standings_of counts)
+without-none number counts h =
+    sym (append-nil (standings_of counts))
+    ∙ (sym (without-past number counts [] (none_found (is_it number) 0 counts h))
+    ∙ ap (λ list. standings_without number (standings_of list)) (append-nil counts))
+
+pub entries_without-found : (number place : ℕ) (entries : List Entry) → position_from (λ entry. entry.number == number) 0 entries ≡ Some place
+    → remove entries place ≡ entries_without number entries
+entries_without-found number place entries h =
+    let found = found_from (λ (entry : Entry). entry.number == number) 0 place entries h in
+    found_remove (λ (entry : Entry). entry.number == number) place entries h
+    ∙ (sym (entries_without-split number found.passed found.item found.rest found.none_before found.passes)
+    ∙ ap (entries_without number) (sym found.splits))
+
+pub entries_without-none : (number : ℕ) (entries : List Entry) → position_from (λ entry. entry.number == number) 0 entries ≡ None
+    → entries ≡ entries_without number entries
+entries_without-none number entries h =
+    sym (append-nil entries)
+    ∙ (sym (entries_without-past number entries [] (none_found (λ (entry : Entry). entry.number == number) 0 entries h))
+    ∙ ap (entries_without number) (append-nil entries))
+
+-- ---- who is asked for
+
+among-split : (passed : List Count) (x : Count) (rest : List Count) → Among x (passed ++ x ∷ rest)
+among-split [] x rest = inl refl
+among-split (y ∷ passed) x rest = inr (among-split passed x rest)
+
+pub among-found : (number place : ℕ) (counts : List Count) (x : Count) → position_from (λ count. count.number == number) 0 counts ≡ Some place
+    → x ≡ get_or counts place x → Among x counts
+among-found number place counts x h e =
+    let found = found_from (is_it number) 0 place counts h in
+    let there : Among found.item counts = subst (λ (list : List Count). Among found.item list) (sym found.splits) (among-split found.passed found.item found.rest) in
+    subst (λ (count : Count). Among count counts) (sym (found_item (is_it number) place counts h x e)) there
+
+-- ---- entries
+
+pub made_by-without : (number : ℕ) (entries : List Entry) → made_by (entries_without number entries) ≡ made_without number (made_by entries)
+made_by-without number [] = refl
+made_by-without number (entry ∷ entries) = by (entry.number == number) (made_by-without number entries)
+  where
+    by : (b : Bool) → made_by (entries_without number entries) ≡ made_without number (made_by entries)
+        → made_by (cond b entries (entry ∷ entries_without number entries)) ≡ cond b (made_by entries) (made_of entry ∷ made_without number (made_by entries))
+    by true h = refl
+    by false h = ap (λ rest. made_of entry ∷ rest) h
+
+pub position-made : (number from : ℕ) (entries : List Entry) → is_some (position_from (λ entry. entry.number == number) from entries) ≡ is_registered (made_by entries) number
+position-made number from [] = refl
+position-made number from (entry ∷ entries) = by (entry.number == number) (position-made number (from + 1) entries)
+  where
+    by : (b : Bool) → is_some (position_from (λ e. e.number == number) (from + 1) entries) ≡ is_registered (made_by entries) number
+        → is_some (cond b (Some from) (position_from (λ e. e.number == number) (from + 1) entries)) ≡ (b || is_registered (made_by entries) number)
+    by true h = refl
+    by false h = h
+
+-- the standing of the holds with one more
+pub raised : (number : ℕ) (holds : List ℕ) (party n : ℕ) → n ≡ slice_index holds party → party < length holds
+    → let more = slice_set holds party (n + 1) in let standing : Standing = record { number = number; holds = more; waits = not (is_held more) } in
+    standing ≡ gained party (record { number = number; holds = holds; waits = not (is_held holds) })
+raised number holds party n same within =
+    let held : not (is_held (slice_set holds party (n + 1))) ≡ false = ap not (is_held-raised holds party n within) in
+    λ i. record { number = number; holds = slice_set holds party (same i + 1); waits = held i }

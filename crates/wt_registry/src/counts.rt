@@ -1,0 +1,147 @@
+//! The holds that the parties have of each registered group.
+
+ghost use Rattle.std.specs.Prelude.{◌≡◌, ℕ, ◌+◌, ◌<◌, ◌≤◌, ◌^◌, ◌==◌, length, IfOk, slice_index, slice_set, replicate};
+ghost use Rattle.std.specs.List.{position_from};
+ghost use Rattle.wt_registry.specs.Registry as registry;
+ghost use Rattle.wt_registry.specs.Registry.{Among, held_at, waits_at, change, gained, lost, standings_without, is_registered};
+ghost use Rattle.wt_registry.specs.Counts.{standing_of, standings_of, entries_without};
+ghost use Rattle.wt_registry.specs.Entries.{made_by};
+
+use crate::entry::Entry;
+use std::alloc::Global;
+use wt_env::memory::OutOfMemory;
+
+/// How many holds each party has of one registered group.
+#[derive(Debug, Drop)]
+pub struct Count {
+    /// The group's registration number.
+    pub(crate) number: u64,
+    /// How many holds each party has, by the party's number.
+    pub(crate) holds: Vec<u64>,
+}
+
+/// Whether any party has a hold.
+fn is_held(holds: &[u64]) -> bool
+    ensures { result ≡ registry.is_held holds.now }
+{
+    holds.iter().any(|count| 0 < *count)
+}
+
+/// Where the count of a group stands.
+fn place_of(counts: &[Count], number: u64) -> Option<usize>
+    ensures { result ≡ position_from (λ count. count.number == number) 0 counts.now }
+{
+    counts.iter().position(|count| count.number == number)
+}
+
+/// How many holds a party has.
+fn holds_of(count: &Count, party: u32) -> u64
+    requires { party < length count.now.holds.items }
+    ensures { result ≡ slice_index count.now.holds.items party }
+{
+    count.holds[party as usize]
+}
+
+/// How many holds of a group a party has.
+pub(crate) fn held_by(counts: &[Count], party: u32, number: u64) -> u64
+    requires parties { (count : Count) → Among count counts.now → party < length count.holds.items }
+    ensures { result ≡ held_at (standings_of counts.now) party number }
+{
+    match place_of(counts, number) {
+        Some(place) => holds_of(&counts[place], party),
+        None => 0,
+    }
+}
+
+/// Whether a group waits for a sweep: it is there, and nobody holds it.
+pub(crate) fn waits(counts: &[Count], number: u64) -> bool
+    ensures { result ≡ waits_at (standings_of counts.now) number }
+{
+    match place_of(counts, number) {
+        Some(place) => !is_held(&counts[place].holds),
+        None => false,
+    }
+}
+
+/// One more hold of a party.
+fn raise(count: &mut Count, party: u32)
+    requires within { party < length count.old.holds.items }
+    requires room { slice_index count.old.holds.items party + 1 < 2 ^ 64 }
+    ensures { standing_of count.new ≡ gained party (standing_of count.old) }
+{
+    count.holds[party as usize] += 1;
+}
+
+/// One hold of a party less.
+fn lower(count: &mut Count, party: u32)
+    requires within { party < length count.old.holds.items }
+    requires held { 1 ≤ slice_index count.old.holds.items party }
+    ensures { standing_of count.new ≡ lost party (standing_of count.old) }
+{
+    count.holds[party as usize] -= 1;
+}
+
+/// One more hold of a party on a group.
+pub(crate) fn gain(counts: &mut Vec<Count>, party: u32, number: u64)
+    requires parties { (count : Count) → Among count counts.old.items → party < length count.holds.items }
+    requires room { held_at (standings_of counts.old.items) party number + 1 < 2 ^ 64 }
+    ensures { standings_of counts.new.items ≡ change number (gained party) (standings_of counts.old.items) }
+{
+    if let Some(place) = place_of(counts, number) {
+        raise(&mut counts[place], party);
+    }
+}
+
+/// One hold of a party on a group less.
+pub(crate) fn lose(counts: &mut Vec<Count>, party: u32, number: u64)
+    requires parties { (count : Count) → Among count counts.old.items → party < length count.holds.items }
+    requires held { 1 ≤ held_at (standings_of counts.old.items) party number }
+    ensures { standings_of counts.new.items ≡ change number (lost party) (standings_of counts.old.items) }
+{
+    if let Some(place) = place_of(counts, number) {
+        lower(&mut counts[place], party);
+    }
+}
+
+/// Takes the count of a group away.
+pub(crate) fn remove_count(counts: &mut Vec<Count>, number: u64)
+    ensures { standings_of counts.new.items ≡ standings_without number (standings_of counts.old.items) }
+{
+    if let Some(place) = place_of(counts, number) {
+        counts.remove(place);
+    }
+}
+
+/// Where the entry of a group stands.
+fn entry_place(entries: &[Entry], number: u64) -> Option<usize>
+    ensures { result ≡ position_from (λ entry. entry.number == number) 0 entries.now }
+{
+    entries.iter().position(|entry| entry.number == number)
+}
+
+/// Takes the entry of a group away.
+pub(crate) fn remove_entry(entries: &mut Vec<Entry>, number: u64)
+    ensures { entries.new.items ≡ entries_without number entries.old.items }
+{
+    if let Some(place) = entry_place(entries, number) {
+        entries.remove(place);
+    }
+}
+
+/// Whether a group with this number is registered.
+pub(crate) fn has_number(entries: &[Entry], number: u64) -> bool
+    ensures { result ≡ is_registered (made_by entries.now) number }
+{
+    entry_place(entries, number).is_some()
+}
+
+/// The holds of a group of which one party has the first.
+pub(crate) fn first_hold(alloc: Global, parties: u64, party: u32) -> Result<Vec<u64>, OutOfMemory>
+    requires within { party < parties }
+    requires small { parties ≤ 1024 }
+    ensures { IfOk result (λ holds. holds.items ≡ slice_set (replicate parties 0) party 1) }
+{
+    let mut holds: Vec<u64> = vec![in alloc; 0; parties as usize]?;
+    holds[party as usize] = 1;
+    Ok(holds)
+}

@@ -1,0 +1,141 @@
+//! The plain searches of the registered groups: each looks at one after another.
+
+ghost use Rattle.std.specs.Prelude.{◌≡◌, ◌^◌, ◌<◌, [], ◌∷◌, ◌++◌, length, false, IfOk, OnErr, ◌==◌, position, map, option_map};
+ghost use Rattle.std.specs.List.{find, list_any, AllByRecursion};
+ghost use Rattle.std.specs.Option.{option_copied};
+ghost use Rattle.wt_env.specs.Equality.{rec_group_eq};
+ghost use Rattle.wt_registry.specs.Registry.{used, is_used as is_used_number, smallest_free as smallest_free_number, place_in, sub_type_at, locate};
+ghost use Rattle.wt_registry.specs.Entries.{made_by, IsPlain};
+ghost use Rattle.wt_registry.specs.Live.{live_of};
+
+use crate::entry::Entry;
+use crate::live::LiveGroup;
+use std::alloc::Global;
+use wt_env::memory::OutOfMemory;
+use wt_env::seq::Seq;
+use wt_env::types::{VMSharedTypeIndex, WasmRecGroup, WasmSubType};
+
+/// The entry that has this key.
+pub(crate) fn find_group<'a>(entries: &'a [Entry], key: &WasmRecGroup) -> Option<&'a Entry>
+    ensures { option_copied result ≡ find (λ entry. rec_group_eq entry.group key.now) entries.now }
+{
+    entries.iter().find(|entry| entry.group == *key)
+}
+
+fn holds_index(entry: &Entry, candidate: u32) -> bool
+    ensures { result ≡ list_any (λ i. i.0 == candidate) entry.now.indices }
+{
+    entry
+        .indices
+        .as_slice()
+        .iter()
+        .any(|index| index.bits() == candidate)
+}
+
+fn any_holds_index(entries: &[Entry], candidate: u32) -> bool
+    ensures { result ≡ list_any (λ entry. list_any (λ i. i.0 == candidate) entry.indices) entries.now }
+{
+    entries.iter().any(|entry| holds_index(entry, candidate))
+}
+
+fn is_used(entries: &[Entry], candidate: u32) -> bool
+    ensures { result ≡ is_used_number (used (made_by entries.now)) candidate }
+{
+    any_holds_index(entries, candidate)
+}
+
+/// The smallest index that no registered type has.
+fn smallest_free(entries: &[Entry]) -> u32
+    requires { length (used (made_by entries.now)) < 2 ^ 32 }
+    ensures value { result ≡ smallest_free_number (used (made_by entries.now)) }
+    ensures free { is_used_number (used (made_by entries.now)) result ≡ false }
+{
+    let mut candidate: u32 = 0;
+    while is_used(entries, candidate) {
+        candidate += 1;
+    }
+    candidate
+}
+
+fn position_of(indices: &[VMSharedTypeIndex], index: VMSharedTypeIndex) -> Option<usize>
+    ensures { result ≡ position (λ at. at.0 == index.0) indices.now }
+{
+    indices.iter().position(|at| at.bits() == index.bits())
+}
+
+fn place_of(indices: &[VMSharedTypeIndex], index: VMSharedTypeIndex) -> Option<usize>
+    ensures { result ≡ place_in index indices.now }
+{
+    position_of(indices, index)
+}
+
+/// The sub type that has this index.
+pub(crate) fn borrow_from(entries: &[Entry], index: VMSharedTypeIndex) -> Option<&WasmSubType>
+    requires { AllByRecursion IsPlain entries.now }
+    ensures { option_copied result ≡ sub_type_at (made_by entries.now) index }
+{
+    for entry in entries {
+        if let Some(place) = place_of(entry.indices.as_slice(), index) {
+            return entry.group.types.get(place);
+        }
+    }
+    None
+}
+
+fn index_bits(alloc: Global, indices: &[VMSharedTypeIndex]) -> Result<Seq<u32>, OutOfMemory>
+    ensures { IfOk result (λ bits. bits ≡ map (λ i. i.0) indices.now) }
+{
+    let bits = indices.iter().map(|index| index.bits()).collect(alloc)?;
+    Ok(Seq::from_vec(bits))
+}
+
+/// Each entry as it is told, in order.
+pub(crate) fn live_groups(alloc: Global, entries: &[Entry]) -> Result<Seq<LiveGroup>, OutOfMemory>
+    ensures { IfOk result (λ groups. groups ≡ live_of (made_by entries.now)) }
+{
+    let mut groups = Seq::new(alloc);
+    for entry in entries {
+        let indices = index_bits(alloc, entry.indices.as_slice())?;
+        groups.push(LiveGroup {
+            number: entry.number,
+            indices,
+        })?;
+    }
+    Ok(groups)
+}
+
+/// Registers the group of one type under this number, with the smallest free index, which it answers.
+pub(crate) fn add_group(
+    alloc: Global,
+    entries: &mut Vec<Entry>,
+    number: u64,
+    group: WasmRecGroup,
+) -> Result<VMSharedTypeIndex, OutOfMemory>
+    requires { length (used (made_by entries.old.items)) < 2 ^ 32 }
+    ensures ok { IfOk result (λ index. entries.new.items ≡ entries.old.items
+        ++ record { number = number; group = group; outer = []; indices = index ∷ [] } ∷ []) }
+    ensures index { IfOk result (λ index. index.0 ≡ smallest_free_number (used (made_by entries.old.items))) }
+    ensures free { IfOk result (λ index. is_used_number (used (made_by entries.old.items)) index.0 ≡ false) }
+    ensures err { OnErr result (entries.new.items ≡ entries.old.items) }
+{
+    let index = VMSharedTypeIndex::new(smallest_free(entries.as_slice()));
+    entries.push(Entry {
+        number,
+        group,
+        outer: Seq::new(alloc),
+        indices: Seq::one(alloc, index)?,
+    })?;
+    Ok(index)
+}
+
+/// The registration number of the group of the type that has this index.
+pub(crate) fn number_at(entries: &[Entry], index: VMSharedTypeIndex) -> Option<u64>
+    ensures { result ≡ option_map (λ at. at.0) (locate (made_by entries.now) index) }
+{
+    for entry in entries {
+        if place_of(entry.indices.as_slice(), index).is_some() {
+            return Some(entry.number);
+        }
+    }
+    None
+}
