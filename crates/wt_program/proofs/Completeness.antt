@@ -1,13 +1,12 @@
 -- Each other answer has a cause that the premises rule out.
-use Rattle.std.proofs.Common.{◌≡◌, ℕ, ◌+◌, ◌<◌, ◌≤◌, ◌^◌, ◌⊎◌, inl, inr, List, [], ◌++◌, length, Option, Some, None, option_map, Result, Ok, Err, IfSome, refl, sym, ap, subst, ◌∙◌, arith, length-append, append-nil}
+use Rattle.std.proofs.Common.{◌≡◌, ℕ, ◌<◌, ◌≤◌, ◌^◌, inl, inr, List, [], ◌++◌, length, Option, Some, None, Result, Ok, Err, refl, sym, ap, subst, ◌∙◌, arith, length-append, append-nil}
 use Rattle.serde_json.specs.Data.{Data}
-use Rattle.serde_json.specs.Read.{read}
-use Rattle.wt_env.specs.Stream.{IsTaken, IsAtEnd, Rose}
+use Rattle.wt_env.specs.Stream.{IsTaken, IsAtEnd}
 use Rattle.wt_env.specs.declared.status.Status.{Status}
 use Rattle.wt_env.specs.declared.status.Status.TheVariants as statuses
 use Rattle.wt_session.specs.declared.command.Command.{Command}
 use Rattle.wt_program.specs.Decode.{decode}
-use Rattle.wt_program.specs.Program.{IsReadToEnd, IsJson, IsNotJson, Decodes, IsBadAt, Runs, IsComplete}
+use Rattle.wt_program.specs.Program.{IsJson, IsNotJson, Decodes, IsBadAt, Runs, IsComplete}
 
 -- nothing was taken where the source is as it was
 pub none_taken : (left : Option (List ℕ)) → IsTaken [] left left

@@ -1,10 +1,10 @@
 -- Which commands a JSON value stands for (JSON as of RFC 8259). A command is an object with exactly
--- the keys that are named; any other value, key or form is no command.
-use Rattle.std.specs.Prelude.{ℕ, suc, ◌==◌, bytes_eq, codes, List, [], ◌∷◌, Option, Some, None, Result, Ok, Err, option_map, option_and_then, if◌then◌else◌}
+-- the keys that are named, and maybe `by`; any other value, key or form is no command.
+use Rattle.std.specs.Prelude.{ℕ, suc, ◌-◌, ◌==◌, nat_lt, bytes_eq, codes, List, [], ◌∷◌, Option, Some, None, Result, Ok, Err, option_map, option_and_then, if◌then◌else◌}
 use Rattle.std.specs.Option.{option_map_or}
 use Rattle.serde_json.specs.Data.{Data, Items, no_items, item}
 use Rattle.serde_json.specs.Events.{members_len}
-use Rattle.serde_json.specs.Find.{get, as_str, as_array, as_object}
+use Rattle.serde_json.specs.Find.{get, as_str, as_number, as_u64, as_array, as_object}
 use Rattle.wt_session.specs.declared.command.HostVal.{HostVal}
 use Rattle.wt_session.specs.declared.command.HostVal.TheVariants.{I32, I64, F32, F64, V128}
 use Rattle.wt_session.specs.declared.command.HostSub.{HostSub}
@@ -57,13 +57,39 @@ decode_func d = option_and_then func_of (as_array d)
 abbrev pub decode_sub : Data → Option HostSub
 decode_sub d = if key_count d == 1 then option_and_then decode_func (get (codes "func") d) else None
 
+-- a number of 32 bits
+abbrev pub word_of : ℕ → Option ℕ
+word_of n = if nat_lt n 4294967296 then Some n else None
+
+abbrev pub decode_word : Data → Option ℕ
+decode_word d = option_and_then word_of (option_and_then as_u64 (as_number d))
+
+-- the party whose command it is: the key `by`, and party 0 where there is none
+abbrev pub by_from : Option Data → Option ℕ
+by_from None = Some 0
+by_from (Some d) = decode_word d
+
+abbrev pub decode_by : Data → Option ℕ
+decode_by d = by_from (get (codes "by") d)
+
+-- how many keys there are besides `by`
+abbrev pub count_without : Option Data → ℕ → ℕ
+count_without None count = count
+count_without (Some by) count = count - 1
+
+abbrev pub own_key_count : Data → ℕ
+own_key_count d = count_without (get (codes "by") d) (key_count d)
+
 -- {"do": "live"}
 abbrev pub decode_live : Data → Option Command
-decode_live d = if key_count d == 1 then Some Live else None
+decode_live d = if own_key_count d == 1 then option_map Live (decode_by d) else None
 
 -- {"do": "type", "sub": a type}
+abbrev pub type_from : ℕ → Data → Option Command
+type_from by d = option_map (HostType by) (option_and_then decode_sub (get (codes "sub") d))
+
 abbrev pub decode_type : Data → Option Command
-decode_type d = if key_count d == 2 then option_map HostType (option_and_then decode_sub (get (codes "sub") d)) else None
+decode_type d = if own_key_count d == 2 then option_and_then (λ by. type_from by d) (decode_by d) else None
 
 -- the command of an object whose key `do` has this word
 abbrev pub command_called : List ℕ → Data → Option Command

@@ -3,7 +3,7 @@
 
 ghost use Rattle.std.specs.Prelude.{◌≡◌, Ok, Err, IfOk};
 ghost use Rattle.serde_json.specs.View.{view, items_view};
-ghost use Rattle.wt_program.specs.Decode.{key_count, val_named, decode_val, vals_of, decode_vals, func_from, decode_func, decode_sub, decode_live, decode_type, decode_command, decode_commands, decode};
+ghost use Rattle.wt_program.specs.Decode.{key_count, own_key_count, word_of, decode_word, decode_by, type_from, val_named, decode_val, vals_of, decode_vals, func_from, decode_func, decode_sub, decode_live, decode_type, decode_command, decode_commands, decode};
 ghost use Rattle.wt_program.specs.declared.decode.DecodeError.{DecodeError};
 
 use serde_json::Value;
@@ -103,20 +103,73 @@ fn decode_command(alloc: Global, value: &Value) -> Result<Option<Command>, OutOf
 fn decode_live(value: &Value) -> Option<Command>
     ensures { result ≡ decode_live (view value.now) }
 {
-    (key_count(value) == 1).then_some(Command::Live)
+    if own_key_count(value) != 1 {
+        return None;
+    }
+    decode_by(value).map(|by| Command::Live { by })
 }
 
 /// `{"do": "type", "sub": a type}`.
 fn decode_type(alloc: Global, value: &Value) -> Result<Option<Command>, OutOfMemory>
     ensures { IfOk result (λ command. command ≡ decode_type (view value.now)) }
 {
-    if key_count(value) != 2 {
+    if own_key_count(value) != 2 {
         return Ok(None);
     }
+    match decode_by(value) {
+        Some(by) => type_from(alloc, by, value),
+        None => Ok(None),
+    }
+}
+
+/// The registration by this party.
+fn type_from(alloc: Global, by: u32, value: &Value) -> Result<Option<Command>, OutOfMemory>
+    ensures { IfOk result (λ command. command ≡ type_from by (view value.now)) }
+{
     let Some(sub) = value.get("sub") else {
         return Ok(None);
     };
-    Ok(decode_sub(alloc, sub)?.map(|sub| Command::HostType { sub }))
+    Ok(decode_sub(alloc, sub)?.map(|sub| Command::HostType { by, sub }))
+}
+
+/// The party whose command it is: the key `by`, and party 0 where there is none.
+fn decode_by(value: &Value) -> Option<u32>
+    ensures { result ≡ decode_by (view value.now) }
+{
+    match value.get("by") {
+        Some(by) => decode_word(by),
+        None => Some(0),
+    }
+}
+
+/// A number of 32 bits.
+fn decode_word(value: &Value) -> Option<u32>
+    ensures { result ≡ decode_word (view value.now) }
+{
+    match value.as_u64() {
+        Some(number) => word_of(number),
+        None => None,
+    }
+}
+
+fn word_of(number: u64) -> Option<u32>
+    ensures { result ≡ word_of number }
+{
+    if number < 4294967296 {
+        Some(number as u32)
+    } else {
+        None
+    }
+}
+
+/// How many members an object has besides `by`.
+fn own_key_count(value: &Value) -> usize
+    ensures { result ≡ own_key_count (view value.now) }
+{
+    match value.get("by") {
+        Some(_) => key_count(value).saturating_sub(1),
+        None => key_count(value),
+    }
 }
 
 /// A type: `{"func": [parameters, results]}`.
@@ -222,6 +275,7 @@ mod tests {
     fn decodes_lists(rt: HostRuntime) -> Result<(), Fail> {
         let alloc = rt.alloc();
         let func = Command::HostType {
+            by: 0,
             sub: HostSub::Func {
                 params: Seq::one(alloc, HostVal::I32)?,
                 results: Seq::one(alloc, HostVal::I64)?,
@@ -229,7 +283,10 @@ mod tests {
         };
         let rows = [
             ("[]", Ok(Vec::new(alloc))),
-            ("[{\"do\":\"live\"}]", Ok(vec![in alloc; Command::Live]?)),
+            (
+                "[{\"do\":\"live\"}]",
+                Ok(vec![in alloc; Command::Live { by: 0 }]?),
+            ),
             (
                 "[{\"do\":\"type\",\"sub\":{\"func\":[[\"i32\"],[\"i64\"]]}}]",
                 Ok(vec![in alloc; func]?),

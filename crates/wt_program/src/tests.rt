@@ -53,6 +53,46 @@ fn answers_rows(rt: HostRuntime) -> Result<(), Fail> {
 }
 
 #[test]
+fn answers_parties(rt: HostRuntime) -> Result<(), Fail> {
+    let two =
+        r#"[{"do":"type","sub":{"func":[[],[]]}},{"do":"type","by":1,"sub":{"func":[[],[]]}},{"do":"live"}]"#;
+    let rows = [
+        (two, "type 0 index 0\ntype 0 index 0\nlive 1 #1[0]\n"),
+        (
+            r#"[{"do":"live","by":16}]"#,
+            "refused Full: parties 16, wanted 17\n",
+        ),
+        (
+            r#"[{"do":"live","by":4294967295}]"#,
+            "refused Full: parties 16, wanted 4294967296\n",
+        ),
+    ];
+    for (input, output) in rows {
+        let (answered, written) = outcome(rt.alloc(), "run", input, &[], &[])?;
+        assert_eq!(rt; answered, Status::Done, "on {input}");
+        assert_eq!(rt; written.as_slice(), output.as_bytes(), "on {input}");
+    }
+    Ok(())
+}
+
+#[test]
+fn refuses_other_parties(rt: HostRuntime) -> Result<(), Fail> {
+    let rows = [
+        r#"[{"by":4294967296,"do":"live"}]"#,
+        r#"[{"by":1.5,"do":"live"}]"#,
+        r#"[{"by":-1,"do":"live"}]"#,
+        r#"[{"by":null,"do":"live"}]"#,
+        r#"[{"by":1,"do":"live","x":1}]"#,
+    ];
+    for input in rows {
+        let (answered, written) = outcome(rt.alloc(), "run", input, &[], &[])?;
+        assert_eq!(rt; answered, Status::BadCommand(1), "on {input}");
+        assert_eq!(rt; written.as_slice(), "".as_bytes(), "on {input}");
+    }
+    Ok(())
+}
+
+#[test]
 fn answers_faults(rt: HostRuntime) -> Result<(), Fail> {
     let live = r#"[{"do":"live"}]"#;
     let rows = [
@@ -77,6 +117,7 @@ fn answers_faults(rt: HostRuntime) -> Result<(), Fail> {
 /// Registers the function type without results that has this one parameter.
 fn registration(alloc: Global, param: HostVal) -> Result<Command, OutOfMemory> {
     Ok(Command::HostType {
+        by: 0,
         sub: HostSub::Func {
             params: Seq::one(alloc, param)?,
             results: Seq::new(alloc),

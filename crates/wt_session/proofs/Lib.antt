@@ -1,3 +1,4 @@
 pub mod HostTypes
 pub mod Kept
+pub mod Padding
 pub mod Turns

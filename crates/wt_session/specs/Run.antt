@@ -1,9 +1,10 @@
 -- What a session answers to commands, and what they change.
-use Rattle.std.specs.Prelude.{ℕ, List, [], ◌∷◌, length, map, true, None, Result, Ok, Err}
+use Rattle.std.specs.Prelude.{ℕ, ◌+◌, nat_lt, if◌then◌else◌, List, [], ◌∷◌, length, map, true, None, Result, Ok, Err}
 use Rattle.wt_env.specs.declared.types.WasmValType.{WasmValType}
 use Rattle.wt_env.specs.declared.types.WasmValType.TheVariants as val
 use Rattle.wt_env.specs.declared.types.WasmCompositeInnerType.TheVariants as shape
 use Rattle.wt_env.specs.declared.types.WasmSubType.{WasmSubType}
+use Rattle.wt_env.specs.declared.limits.Limit.TheVariants.{Parties}
 use Rattle.wt_registry.specs.declared.refusal.Full.{Full}
 use Rattle.wt_registry.specs.Registry.{Registry, Hold, register}
 use Rattle.wt_registry.specs.Live.{live_of}
@@ -17,7 +18,7 @@ use Rattle.wt_session.specs.declared.handle.Handle.TheVariants as handle
 use Rattle.wt_session.specs.declared.reply.Refusal.TheVariants as refusal
 use Rattle.wt_session.specs.declared.reply.Reply.{Reply}
 use Rattle.wt_session.specs.declared.reply.Reply.TheVariants as reply
-use Rattle.wt_session.specs.World.{World, row_of, with_handle}
+use Rattle.wt_session.specs.World.{World, party_of, row_of, with_handle}
 
 -- a value type that the host names
 abbrev pub val_type_of : HostVal → WasmValType
@@ -43,10 +44,21 @@ type_made world party (Ok registered) = (
 )
 type_made world party (Err full) = (reply.Refused (refusal.Full full), world)
 
--- The reply to one command, and the session after it. So far each command is party 0's.
+-- the limit that a party's number passes
+abbrev pub full_of_parties : World → ℕ → Full
+full_of_parties world party = record { limit = Parties; bound = world.registry.engine.limits.parties; wanted = party + 1 }
+
+-- the reply to a command by a party below the limit, and the session after it
+abbrev pub done_by : World → Command → Reply × World
+done_by world (command.HostType by sub) = type_made world by (register world.registry by (sub_type_of sub))
+done_by world (command.Live by) = (reply.Live (live_of world.registry.made), world)
+
+-- The reply to one command, and the session after it.
 abbrev pub step : World → Command → Reply × World
-step world (command.HostType sub) = type_made world 0 (register world.registry 0 (sub_type_of sub))
-step world command.Live = (reply.Live (live_of world.registry.made), world)
+step world command =
+    if nat_lt (party_of command) world.registry.engine.limits.parties
+    then done_by world command
+    else (reply.Refused (refusal.Full (full_of_parties world (party_of command))), world)
 
 -- the replies to commands in turn
 abbrev pub replies_of : World → List Command → List Reply

@@ -1,10 +1,12 @@
 -- The session that the fields stand for, and what is kept true of them.
-use Rattle.std.specs.Prelude.{◌≡◌, ℕ, ◌-◌, ◌≤◌, ◌⊎◌, List, [], ◌∷◌, ◌++◌, length, replicate, Result, Ok, Err}
+use Rattle.std.specs.Prelude.{◌≡◌, ℕ, ◌-◌, ◌≤◌, ◌⊎◌, List, [], ◌∷◌, ◌++◌, length, map, replicate, Result, Ok, Err}
+use Rattle.std.specs.List.{flat_map}
 use Rattle.wt_env.specs.Limits.{EngineParts}
 use Rattle.wt_registry.specs.declared.refusal.Full.{Full}
 use Rattle.wt_registry.specs.Registry.{Made, Registry, Hold, Among, IsSound, Grows, waiting, empty_registry}
 use Rattle.wt_session.specs.declared.handle.Handle.{Handle}
 use Rattle.wt_session.specs.declared.handle.Handle.TheVariants as handle
+use Rattle.wt_session.specs.declared.rows.Row.{Row}
 use Rattle.wt_session.specs.declared.reply.Refusal.TheVariants as refusal
 use Rattle.wt_session.specs.declared.reply.Reply.{Reply}
 use Rattle.wt_session.specs.declared.reply.Reply.TheVariants as reply
@@ -18,22 +20,28 @@ new_world engine = record {
   counts = no_counts;
 }
 
--- party 0 has these handles, and the others below the limit none so far
-abbrev pub world_of : Registry → List Handle → World
-world_of registry row = record {
+-- the handles of each party that has a row
+abbrev pub rows_of : List Row → List (List Handle)
+rows_of rows = map (λ row. row.handles.items) rows
+
+-- the handles of each party below the limit: one without a row has none
+abbrev pub padded : ℕ → List (List Handle) → List (List Handle)
+padded parties rows = rows ++ replicate (parties - length rows) []
+
+abbrev pub world_of : Registry → List (List Handle) → World
+world_of registry rows = record {
   registry = registry;
-  handles = row ∷ replicate (registry.engine.limits.parties - 1) [];
+  handles = padded registry.engine.limits.parties rows;
   counts = no_counts;
 }
 
 -- the groups are those that the handles hold
-pub record IsKept (registry : Registry) (row : List Handle) (party : ℕ) : Type 0 where
+pub record IsKept (registry : Registry) (rows : List (List Handle)) : Type 0 where
   pub sound : IsSound registry
-  pub party_0 : party ≡ 0
-  pub parties : 1 ≤ registry.engine.limits.parties
+  pub parties : length rows ≤ registry.engine.limits.parties
   pub waiting : waiting registry.standings ≡ []
-  pub every : (group : Made) → Among group registry.made → Among group.number (held_in row)
-  pub only : (number : ℕ) → Among number (held_in row) → (group : Made) × Among group registry.made × (group.number ≡ number)
+  pub every : (group : Made) → Among group registry.made → Among group.number (flat_map held_in rows)
+  pub only : (number : ℕ) → Among number (flat_map held_in rows) → (group : Made) × Among group registry.made × (group.number ≡ number)
 
 -- the reply to a registration, the registry after it, and the party's handles after it
 abbrev pub row_after : List Handle → Registry → Result (Hold × Registry) Full → Reply × (Registry × List Handle)

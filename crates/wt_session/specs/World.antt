@@ -3,6 +3,8 @@ use Rattle.std.specs.Prelude.{◌≡◌, ℕ, zero, suc, List, [], ◌∷◌, �
 use Rattle.std.specs.List.{flat_map}
 use Rattle.wt_registry.specs.Registry.{Made, Registry, Among, IsRising, waiting}
 use Rattle.wt_registry.specs.Reach.{Reach}
+use Rattle.wt_session.specs.declared.command.Command.{Command}
+use Rattle.wt_session.specs.declared.command.Command.TheVariants as command
 use Rattle.wt_session.specs.declared.handle.Handle.{Handle}
 use Rattle.wt_session.specs.declared.handle.Handle.TheVariants as handle
 
@@ -21,6 +23,11 @@ pub record World : Type 0 where
 
 abbrev pub no_counts : Counts
 no_counts = record { stores = 0; modules = 0; components = 0; component_instances = 0 }
+
+-- the party whose command it is
+abbrev pub party_of : Command → ℕ
+party_of (command.HostType by sub) = by
+party_of (command.Live by) = by
 
 -- the registration numbers that a handle holds
 abbrev pub held_by : Handle → List ℕ

@@ -22,11 +22,26 @@ pub enum HostSub {
     },
 }
 
-/// One command.
+/// One command, by a party of this number.
 #[derive(Debug, PartialEq, Eq, Drop)]
 pub enum Command {
     /// Registers a type, and takes a handle on it.
-    HostType { sub: HostSub },
+    HostType { by: u32, sub: HostSub },
     /// Tells which groups are registered.
-    Live,
+    Live { by: u32 },
+}
+
+impl Command {
+    ghost use Rattle.std.specs.Prelude.{◌≡◌};
+    ghost use Rattle.wt_session.specs.World.{party_of};
+
+    /// The number of the party whose command it is.
+    pub fn by(&self) -> u32
+        ensures { result ≡ party_of self.now }
+    {
+        match self {
+            Command::HostType { by, sub: _ } => *by,
+            Command::Live { by } => *by,
+        }
+    }
 }

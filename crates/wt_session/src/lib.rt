@@ -7,5 +7,6 @@ mod host;
 pub mod laws;
 mod registration;
 pub mod reply;
+pub mod rows;
 pub mod run;
 pub mod session;

@@ -1,40 +1,38 @@
 //! A session: an engine's registry, and what each party holds of it.
 
 use crate::command::Command;
-use crate::handle::Handle;
-use crate::registration::register_type;
-use crate::reply::Reply;
+use crate::registration::register_by;
+use crate::reply::{Refusal, Reply};
+use crate::rows::Row;
 use std::alloc::Global;
 use std::marker::Model;
-use wt_env::limits::Engine;
+use wt_env::limits::{Engine, Limit};
 use wt_env::memory::OutOfMemory;
 use wt_env::seq::Seq;
 use wt_registry::live::LiveGroup;
-use wt_registry::registered_type::PartyNumber;
+use wt_registry::refusal::Full;
 use wt_registry::registry::TypeRegistry;
 
 /// A session of an engine. It is never dropped: `close` spends it.
 pub struct Session {
     alloc: Global,
     registry: TypeRegistry,
-    // Each command is this party's so far.
-    party: PartyNumber,
-    handles: Vec<Handle>,
+    rows: Vec<Row>,
 }
 
 impl Model for Session {
     ghost use Rattle.wt_session.specs.World.{World};
-    ghost use Rattle.wt_session.specs.Session.{world_of, IsKept};
+    ghost use Rattle.wt_session.specs.Session.{world_of, rows_of, IsKept};
 
     ghost Value = { World };
 
-    ghost view = { λ session. world_of session.registry session.handles.items };
+    ghost view = { λ session. world_of session.registry (rows_of session.rows.items) };
 
-    ghost invariant = { λ session. IsKept session.registry session.handles.items session.party };
+    ghost invariant = { λ session. IsKept session.registry (rows_of session.rows.items) };
 }
 
 impl Session {
-    ghost use Rattle.std.specs.Prelude.{◌≡◌, ◌≤◌, IfOk, OnErr};
+    ghost use Rattle.std.specs.Prelude.{◌≡◌, IfOk, OnErr};
     ghost use Rattle.wt_registry.specs.Registry.{OneIndexPerTree};
     ghost use Rattle.wt_registry.specs.Live.{live_of};
     ghost use Rattle.wt_session.specs.World.{HasExactlyReached};
@@ -43,15 +41,12 @@ impl Session {
 
     /// A session of the engine in which nothing was done. It takes no memory.
     pub fn new(alloc: Global, engine: Engine) -> Session
-        // A condition for now: there is a party.
-        requires { 1 ≤ engine.limits.parties }
         ensures { result ≡ new_world engine }
     {
         Session {
             alloc,
             registry: TypeRegistry::new(alloc, &engine),
-            party: PartyNumber::new(0),
-            handles: Vec::new(alloc),
+            rows: Vec::new(alloc),
         }
     }
 
@@ -78,15 +73,20 @@ impl Session {
         ensures ok { IfOk result (λ reply. step self.old command.now ≡ (reply, self.new)) }
         ensures err { OnErr result (self.new ≡ self.old) }
     {
+        let party = command.by();
+        let bound = self.registry.engine().limits().parties;
+        if party as u64 >= bound {
+            return Ok(Reply::Refused(Refusal::Full(Full {
+                limit: Limit::Parties,
+                bound,
+                wanted: party as u64 + 1,
+            })));
+        }
         match command {
-            Command::HostType { sub } => register_type(
-                self.alloc,
-                &mut self.registry,
-                &mut self.party,
-                &mut self.handles,
-                sub,
-            ),
-            Command::Live => Ok(Reply::Live(self.registry.live()?)),
+            Command::HostType { by: _, sub } => {
+                register_by(self.alloc, &mut self.registry, &mut self.rows, party, sub)
+            }
+            Command::Live { by: _ } => Ok(Reply::Live(self.registry.live()?)),
         }
     }
 
@@ -95,12 +95,11 @@ impl Session {
         let Session {
             alloc: _,
             registry: _,
-            party: _,
-            handles: mut handles,
+            rows: mut rows,
         } = self;
-        while let Some(handle) = handles.pop() {
-            handle.forget();
+        while let Some(row) = rows.pop() {
+            row.forget();
         }
-        handles.destroy_empty();
+        rows.destroy_empty();
     }
 }

@@ -1,26 +1,41 @@
--- a registration is the step that the definition says, and keeps what is kept
-use Rattle.std.proofs.Common.{◌≡◌, sym, ap, subst, ◌∙◌}
+-- a registration by a party below the limit is the step that the definition says
+use Rattle.std.proofs.Common.{◌≡◌, ◌<◌, ℕ, true, cond, nat_lt, sym, ap, ◌∙◌, arith}
+use Rattle.wt_env.specs.declared.limits.EngineLimits.{EngineLimits}
+use Rattle.wt_env.specs.Limits.{EngineParts}
 use Rattle.wt_registry.specs.Registry.{register}
-use Rattle.wt_session.specs.Run.{sub_type_of, step}
-use Rattle.wt_session.specs.Session.{world_of, row_after}
-use Rattle.wt_session.proofs.Kept.{kept_on, type_row, if_ok_map}
+use Rattle.wt_session.specs.declared.command.HostSub.{HostSub}
+use Rattle.wt_session.specs.declared.command.Command.TheVariants as command
+use Rattle.wt_session.specs.declared.reply.Reply.TheVariants as reply
+use Rattle.wt_session.specs.declared.reply.Refusal.TheVariants as refusal
+use Rattle.wt_session.specs.World.{World, party_of}
+use Rattle.wt_session.specs.Run.{sub_type_of, type_made, full_of_parties, step}
+use Rattle.wt_session.specs.Session.{rows_of, world_of}
+use Rattle.wt_session.proofs.Kept.{if_ok_map}
 use Rattle.wt_session.proofs.session.Session.step.Goals as goal
 
-pub invariant_of-self : goal.invariant_of-self
-invariant_of-self c =
-    let new = c.register_type.new in
-    kept_on c.self.inside.registry new.registry c.self.inside.handles.items new.row.items c.self.inside.party new.party c.self.invariant c.register_type.ensures.sound c.register_type.ensures.party c.register_type.ensures.grows
+below_true : (n m : ℕ) → n < m → nat_lt n m ≡ true
+below_true n m h = grind (arith, h)
+
+type_step : (world : World) (by : ℕ) (sub : HostSub) → by < world.registry.engine.limits.parties
+    → step world (command.HostType by sub) ≡ type_made world by (register world.registry by (sub_type_of sub))
+type_step world by sub below =
+    ap (λ b. cond b (type_made world by (register world.registry by (sub_type_of sub))) (reply.Refused (refusal.Full (full_of_parties world by)), world))
+    (below_true by world.registry.engine.limits.parties below)
 
 pub returns-in-HostType-clause-ok : goal.returns-in-HostType-clause-ok
 returns-in-HostType-clause-ok c =
     let registry = c.self.inside.registry in
-    let row = c.self.inside.handles.items in
-    let new = c.register_type.new in
-    let ty = sub_type_of c.in-HostType.sub in
-    if_ok_map c.register_type.result
-    (λ reply is.
-    ap (λ world. step world c.args.command.now) (sym c.self.view_is)
-    ∙ ap (step (world_of registry row)) c.in-HostType.is
-    ∙ type_row registry new.registry row new.row.items reply (register registry 0 ty) c.register_type.ensures.grows.engine
-    (subst (λ party. row_after row registry (register registry party ty) ≡ (reply, (new.registry, new.row.items))) c.self.invariant.party_0 is))
-    c.register_type.ensures.ok
+    let world = world_of registry (rows_of c.self.inside.rows.items) in
+    let sub = c.in-HostType.sub in
+    let by : c.by-party.result ≡ c.in-HostType.by = c.by-party.ensures ∙ ap party_of c.in-HostType.is in
+    let bound = ap (λ (l : EngineLimits). l.parties) c.limits-bound.ensures.value in
+    let engine = ap (λ (e : EngineParts). e.limits.parties) c.engine.ensures in
+    let below : c.in-HostType.by < registry.engine.limits.parties = omega (arith, by, bound, engine, c.if-party-bound.false) in
+    if_ok_map c.register_by.result
+    (λ told is.
+    ap (λ w. step w c.args.command.now) (sym c.self.view_is)
+    ∙ ap (step world) c.in-HostType.is
+    ∙ type_step world c.in-HostType.by sub below
+    ∙ ap (λ (p : ℕ). type_made world p (register registry p (sub_type_of sub))) (sym by)
+    ∙ is)
+    c.register_by.ensures.ok
