@@ -4,7 +4,7 @@ use Rattle.std.proofs.lemmas.List.{map-append, length-replicate}
 use Rattle.wt_tree.specs.Tree.{Description, close, tree_eq}
 use Rattle.wt_registry.specs.declared.refusal.Full.{Full}
 use Rattle.wt_registry.specs.Registry.{Made, Registry, Standing, Among, IsSound, trees, find_tree, new_group, new_standing, with_group, wanted_for, first_full, added_unless, found_or_added, held_at, waiting, change, gained, hold, held_as, held_by, registered, Grows}
-use Rattle.wt_registry.proofs.Registration.{found_passes}
+use Rattle.wt_registry.proofs.Registration.{found_passes, among_map}
 use Rattle.wt_registry.proofs.Kept.{among_last}
 use Rattle.wt_registry.proofs.Adding.{among_mapped}
 use Rattle.wt_registry.proofs.Holding.{slice_index-zeros}
@@ -152,3 +152,14 @@ registered-grows old new party description group sound within h =
     let mid = from.0 in
     let same = with_more mid new party group.number from.2 in
     subst (λ (r : Registry). Grows old r party group.number) same (grows-held old mid party group from.1 within)
+
+-- ---- a hold more of a registered group
+
+pub hold-grows : (old new : Registry) (party number : ℕ) → IsSound old → party < old.engine.limits.parties → Among number (map (λ s. s.number) old.standings)
+    → hold old party number ≡ Ok new → Grows old new party number
+hold-grows old new party number sound within stands h =
+    let named = among_map (λ (m : Made). m.number) old.made number (subst (Among number) sound.are_standing.numbers stands) in
+    let group : Made = named.0 in
+    subst (Grows old new party) (sym named.2)
+    (subst (λ (r : Registry). Grows old r party group.number) (with_more old new party group.number (ap (hold old party) (sym named.2) ∙ h))
+    (grows-held old old party group (enters-found old group sound named.1) within))

@@ -149,6 +149,7 @@ impl RegisteredType {
         ensures ok { IfOk result (λ found. root_of registry.old party.old index ≡ Ok (found, registry.new)) }
         ensures owner { IfOk result (λ found. (hold : _) → found ≡ Some hold → hold.party ≡ party.old) }
         ensures held { IfOk result (λ found. (hold : _) → found ≡ Some hold → IsHeld registry.new hold) }
+        ensures grows { IfOk result (λ found. (hold : _) → found ≡ Some hold → Grows registry.old registry.new party.old hold.number) }
         ensures full { (full : _) → result ≡ Err full → root_of registry.old party.old index ≡ Err full }
         ensures err { OnErr result (registry.new ≡ registry.old) }
         ensures party { party.new ≡ party.old }
@@ -181,6 +182,7 @@ impl RegisteredType {
         requires held { IsHeld registry.old self.now }
         ensures copy { IfOk result (λ copy. copy ≡ self.now) }
         ensures held { IfOk result (λ copy. IsHeld registry.new copy) }
+        ensures grows { IfOk result (λ copy. Grows registry.old registry.new party.old copy.number) }
         ensures ok { IfOk result (λ copy. hold registry.old party.old self.now.number ≡ Ok registry.new) }
         ensures full { (full : _) → result ≡ Err full → hold registry.old party.old self.now.number ≡ Err full }
         ensures err { OnErr result (registry.new ≡ registry.old) }
