@@ -10,7 +10,7 @@ use Rattle.wt_session.specs.declared.command.HostVal.TheVariants.{I32, I64, F32,
 use Rattle.wt_session.specs.declared.command.HostSub.{HostSub}
 use Rattle.wt_session.specs.declared.command.HostSub.TheVariants.{Func}
 use Rattle.wt_session.specs.declared.command.Command.{Command}
-use Rattle.wt_session.specs.declared.command.Command.TheVariants.{HostType, Live}
+use Rattle.wt_session.specs.declared.command.Command.TheVariants.{HostType, Clone, Root, Drop, Sweep, Live}
 
 -- how many members an object has; none where the value is no object
 abbrev pub key_count : Data → ℕ
@@ -64,6 +64,10 @@ word_of n = if nat_lt n 4294967296 then Some n else None
 abbrev pub decode_word : Data → Option ℕ
 decode_word d = option_and_then word_of (option_and_then as_u64 (as_number d))
 
+-- the number of 32 bits under a key
+abbrev pub decode_word_at : List ℕ → Data → Option ℕ
+decode_word_at key d = option_and_then decode_word (get key d)
+
 -- the party whose command it is: the key `by`, and party 0 where there is none
 abbrev pub by_from : Option Data → Option ℕ
 by_from None = Some 0
@@ -91,11 +95,38 @@ type_from by d = option_map (HostType by) (option_and_then decode_sub (get (code
 abbrev pub decode_type : Data → Option Command
 decode_type d = if own_key_count d == 2 then option_and_then (λ by. type_from by d) (decode_by d) else None
 
+-- the party and the number under this key, of an object with no other key but `do` and maybe `by`
+abbrev pub by_and_word : List ℕ → Data → Option (ℕ × ℕ)
+by_and_word key d =
+    if own_key_count d == 2
+    then option_and_then (λ by. option_map (λ word. (by, word)) (decode_word_at key d)) (decode_by d)
+    else None
+
+-- {"do": "clone", "handle": a number}
+abbrev pub decode_clone : Data → Option Command
+decode_clone d = option_map (λ words. Clone words.0 words.1) (by_and_word (codes "handle") d)
+
+-- {"do": "root", "index": a number}
+abbrev pub decode_root : Data → Option Command
+decode_root d = option_map (λ words. Root words.0 words.1) (by_and_word (codes "index") d)
+
+-- {"do": "drop", "handle": a number}
+abbrev pub decode_drop : Data → Option Command
+decode_drop d = option_map (λ words. Drop words.0 words.1) (by_and_word (codes "handle") d)
+
+-- {"do": "sweep", "handle": a number}
+abbrev pub decode_sweep : Data → Option Command
+decode_sweep d = option_map (λ words. Sweep words.0 words.1) (by_and_word (codes "handle") d)
+
 -- the command of an object whose key `do` has this word
 abbrev pub command_called : List ℕ → Data → Option Command
 command_called word d =
     if bytes_eq word (codes "live") then decode_live d else (
-    if bytes_eq word (codes "type") then decode_type d else None)
+    if bytes_eq word (codes "type") then decode_type d else (
+    if bytes_eq word (codes "clone") then decode_clone d else (
+    if bytes_eq word (codes "root") then decode_root d else (
+    if bytes_eq word (codes "drop") then decode_drop d else (
+    if bytes_eq word (codes "sweep") then decode_sweep d else None)))))
 
 -- a command: an object whose key `do` says which
 abbrev pub decode_command : Data → Option Command

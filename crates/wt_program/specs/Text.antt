@@ -4,12 +4,16 @@ use Rattle.std.specs.Fmt.{decimal}
 use Rattle.std.specs.List.{flat_map}
 use Rattle.wt_env.specs.declared.limits.Limit.{Limit}
 use Rattle.wt_env.specs.declared.limits.Limit.TheVariants.{Parties, Groups, Types, References, Ever, Holds}
+use Rattle.wt_registry.specs.declared.debt.Swept.{Swept}
+use Rattle.wt_registry.specs.declared.debt.Swept.TheVariants.{Removed, Kept, Gone}
 use Rattle.wt_registry.specs.declared.live.LiveGroup.{LiveGroup}
 use Rattle.wt_registry.specs.declared.refusal.Full.{Full}
+use Rattle.wt_session.specs.declared.reply.HandleKind.{HandleKind}
+use Rattle.wt_session.specs.declared.reply.HandleKind.TheVariants as kinds
 use Rattle.wt_session.specs.declared.reply.Refusal.{Refusal}
 use Rattle.wt_session.specs.declared.reply.Refusal.TheVariants as refusals
 use Rattle.wt_session.specs.declared.reply.Reply.{Reply}
-use Rattle.wt_session.specs.declared.reply.Reply.TheVariants.{TypeMade, Live, Refused}
+use Rattle.wt_session.specs.declared.reply.Reply.TheVariants.{TypeMade, NoneFound, Owed, Dropped, Swept as SweptReply, Live, Refused}
 
 abbrev pub line_feed : List ℕ
 line_feed = 10 ∷ []
@@ -39,9 +43,28 @@ group_text group = codes " #" ++ decimal group.number ++ codes "[" ++ indices_te
 abbrev pub full_text : Full → List ℕ
 full_text full = codes "Full: " ++ limit_word full.limit ++ codes " " ++ decimal full.bound ++ codes ", wanted " ++ decimal full.wanted
 
+abbrev pub kind_word : HandleKind → List ℕ
+kind_word kinds.Type = codes "type"
+kind_word kinds.Debt = codes "debt"
+
+-- `NoSuchHandle: party 0 has no type 1`
+abbrev pub no_such_handle_text : ℕ → HandleKind → ℕ → List ℕ
+no_such_handle_text party kind handle =
+    codes "NoSuchHandle: party " ++ decimal party ++ codes " has no " ++ kind_word kind ++ codes " " ++ decimal handle
+
 -- the code of a refusal, and what was refused
 abbrev pub refusal_text : Refusal → List ℕ
 refusal_text (refusals.Full full) = full_text full
+refusal_text (refusals.NoSuchHandle party kind handle) = no_such_handle_text party kind handle
+
+-- a line of one word
+abbrev pub word_line : List ℕ → List ℕ
+word_line word = word ++ line_feed
+
+abbrev pub swept_line : Swept → List ℕ
+swept_line (Removed count) = codes "removed " ++ decimal count ++ line_feed
+swept_line Kept = word_line (codes "kept")
+swept_line Gone = word_line (codes "gone")
 
 abbrev pub live_line : List LiveGroup → List ℕ
 live_line groups = codes "live " ++ decimal (length groups) ++ flat_map group_text groups ++ line_feed
@@ -52,6 +75,10 @@ refused_line refusal = codes "refused " ++ refusal_text refusal ++ line_feed
 -- the line of a reply
 abbrev pub line_of : Reply → List ℕ
 line_of (TypeMade handle index) = codes "type " ++ decimal handle ++ codes " index " ++ decimal index ++ line_feed
+line_of NoneFound = word_line (codes "none")
+line_of Owed = word_line (codes "owed")
+line_of Dropped = word_line (codes "dropped")
+line_of (SweptReply swept) = swept_line swept
 line_of (Live groups) = live_line groups
 line_of (Refused refusal) = refused_line refusal
 

@@ -3,7 +3,7 @@
 
 ghost use Rattle.std.specs.Prelude.{◌≡◌, Ok, Err, IfOk};
 ghost use Rattle.serde_json.specs.View.{view, items_view};
-ghost use Rattle.wt_program.specs.Decode.{key_count, own_key_count, word_of, decode_word, decode_by, type_from, val_named, decode_val, vals_of, decode_vals, func_from, decode_func, decode_sub, decode_live, decode_type, decode_command, decode_commands, decode};
+ghost use Rattle.wt_program.specs.Decode.{key_count, own_key_count, word_of, decode_word, decode_word_at, decode_by, by_and_word, type_from, val_named, decode_val, vals_of, decode_vals, func_from, decode_func, decode_sub, decode_live, decode_type, decode_clone, decode_root, decode_drop, decode_sweep, decode_command, decode_commands, decode};
 ghost use Rattle.wt_program.specs.declared.decode.DecodeError.{DecodeError};
 
 use serde_json::Value;
@@ -95,6 +95,10 @@ fn decode_command(alloc: Global, value: &Value) -> Result<Option<Command>, OutOf
     match value.get("do").and_then(Value::as_str) {
         Some("live") => Ok(decode_live(value)),
         Some("type") => decode_type(alloc, value),
+        Some("clone") => Ok(decode_clone(value)),
+        Some("root") => Ok(decode_root(value)),
+        Some("drop") => Ok(decode_drop(value)),
+        Some("sweep") => Ok(decode_sweep(value)),
         _ => Ok(None),
     }
 }
@@ -132,6 +136,46 @@ fn type_from(alloc: Global, by: u32, value: &Value) -> Result<Option<Command>, O
     Ok(decode_sub(alloc, sub)?.map(|sub| Command::HostType { by, sub }))
 }
 
+/// `{"do": "clone", "handle": a number}`.
+fn decode_clone(value: &Value) -> Option<Command>
+    ensures { result ≡ decode_clone (view value.now) }
+{
+    by_and_word(value, "handle").map(|(by, handle)| Command::Clone { by, handle })
+}
+
+/// `{"do": "root", "index": a number}`.
+fn decode_root(value: &Value) -> Option<Command>
+    ensures { result ≡ decode_root (view value.now) }
+{
+    by_and_word(value, "index").map(|(by, index)| Command::Root { by, index })
+}
+
+/// `{"do": "drop", "handle": a number}`.
+fn decode_drop(value: &Value) -> Option<Command>
+    ensures { result ≡ decode_drop (view value.now) }
+{
+    by_and_word(value, "handle").map(|(by, handle)| Command::Drop { by, handle })
+}
+
+/// `{"do": "sweep", "handle": a number}`.
+fn decode_sweep(value: &Value) -> Option<Command>
+    ensures { result ≡ decode_sweep (view value.now) }
+{
+    by_and_word(value, "handle").map(|(by, handle)| Command::Sweep { by, handle })
+}
+
+/// The party and the number under this key, of an object with no other key but `do` and maybe `by`.
+fn by_and_word(value: &Value, key: &str) -> Option<(u32, u32)>
+    ensures { result ≡ by_and_word key.now (view value.now) }
+{
+    if own_key_count(value) != 2 {
+        return None;
+    }
+    let by = decode_by(value)?;
+    let word = decode_word_at(value, key)?;
+    Some((by, word))
+}
+
 /// The party whose command it is: the key `by`, and party 0 where there is none.
 fn decode_by(value: &Value) -> Option<u32>
     ensures { result ≡ decode_by (view value.now) }
@@ -150,6 +194,13 @@ fn decode_word(value: &Value) -> Option<u32>
         Some(number) => word_of(number),
         None => None,
     }
+}
+
+/// The number of 32 bits under a key.
+fn decode_word_at(value: &Value, key: &str) -> Option<u32>
+    ensures { result ≡ decode_word_at key.now (view value.now) }
+{
+    value.get(key).and_then(decode_word)
 }
 
 fn word_of(number: u64) -> Option<u32>
@@ -304,6 +355,65 @@ mod tests {
         for (text, want) in rows {
             let value = Value::from_str(alloc, text)?;
             assert_eq!(rt; decode(alloc, &value), want, "at {text}");
+        }
+        Ok(())
+    }
+
+    #[test]
+    fn decodes_commands_on_handles(rt: HostRuntime) -> Result<(), Fail> {
+        let alloc = rt.alloc();
+        let rows = [
+            (
+                r#"[{"do":"clone","handle":0}]"#,
+                Command::Clone { by: 0, handle: 0 },
+            ),
+            (
+                r#"[{"do":"root","index":4294967295}]"#,
+                Command::Root {
+                    by: 0,
+                    index: 4294967295,
+                },
+            ),
+            (
+                r#"[{"handle":3,"by":2,"do":"drop"}]"#,
+                Command::Drop { by: 2, handle: 3 },
+            ),
+            (
+                r#"[{"do":"sweep","by":1,"handle":7}]"#,
+                Command::Sweep { by: 1, handle: 7 },
+            ),
+        ];
+        for (text, want) in rows {
+            let value = Value::from_str(alloc, text)?;
+            let commands = vec![in alloc; want]?;
+            assert_eq!(rt; decode(alloc, &value), Ok(commands), "at {text}");
+        }
+        Ok(())
+    }
+
+    #[test]
+    fn refuses_other_handles(rt: HostRuntime) -> Result<(), Fail> {
+        let alloc = rt.alloc();
+        let rows = [
+            r#"[{"do":"drop","handle":1.5}]"#,
+            r#"[{"do":"drop","handle":-1}]"#,
+            r#"[{"do":"drop","handle":"0"}]"#,
+            r#"[{"do":"drop","handle":null}]"#,
+            r#"[{"do":"sweep"}]"#,
+            r#"[{"do":"sweep","index":0}]"#,
+            r#"[{"do":"root","index":4294967296}]"#,
+            r#"[{"do":"root","handle":0}]"#,
+            r#"[{"do":"clone","handle":0,"index":0}]"#,
+            r#"[{"do":"clone","by":-1,"handle":0}]"#,
+            r#"[{"do":"Drop","handle":0}]"#,
+        ];
+        for text in rows {
+            let value = Value::from_str(alloc, text)?;
+            assert_eq!(rt;
+                decode(alloc, &value),
+                Err(DecodeError::BadCommand(1)),
+                "at {text}"
+            );
         }
         Ok(())
     }

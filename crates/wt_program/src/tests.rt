@@ -1,5 +1,6 @@
 //! Rows of the program: what it answers and writes, over sources and sinks in memory.
 
+use crate::read::LIMIT;
 use crate::run::run;
 use std::alloc::Global;
 use std::test::Fail;
@@ -75,14 +76,123 @@ fn answers_parties(rt: HostRuntime) -> Result<(), Fail> {
     Ok(())
 }
 
+/// Two parties owe one group: the first sweep removes it, and the second finds it gone.
+const SWEPT_TWICE: (&str, &str) = (
+    r#"[
+        {"do":"type","sub":{"func":[[],[]]}},
+        {"do":"drop","handle":0},
+        {"do":"type","by":1,"sub":{"func":[[],[]]}},
+        {"do":"drop","by":1,"handle":0},
+        {"do":"sweep","handle":0},
+        {"do":"sweep","by":1,"handle":0},
+        {"do":"live"}
+    ]"#,
+    "type 0 index 0\nowed\ntype 0 index 0\nowed\nremoved 1\ngone\nlive 0\n",
+);
+
+/// A debt on a removed group isn't on an equal one that is registered later.
+const REGISTERED_AGAIN: (&str, &str) = (
+    r#"[
+        {"do":"type","sub":{"func":[[],[]]}},
+        {"do":"drop","handle":0},
+        {"do":"type","by":1,"sub":{"func":[[],[]]}},
+        {"do":"drop","by":1,"handle":0},
+        {"do":"sweep","handle":0},
+        {"do":"type","sub":{"func":[[],[]]}},
+        {"do":"sweep","by":1,"handle":0},
+        {"do":"live"}
+    ]"#,
+    "type 0 index 0\nowed\ntype 0 index 0\nowed\nremoved 1\ntype 1 index 0\ngone\nlive 1 #2[0]\n",
+);
+
+/// A group that is held again before its sweep is kept, and the debt is spent.
+const HELD_AGAIN: (&str, &str) = (
+    r#"[
+        {"do":"type","sub":{"func":[[],[]]}},
+        {"do":"drop","handle":0},
+        {"do":"type","sub":{"func":[[],[]]}},
+        {"do":"sweep","handle":0},
+        {"do":"live"},
+        {"do":"sweep","handle":0}
+    ]"#,
+    "type 0 index 0\nowed\ntype 1 index 0\nkept\nlive 1 #1[0]\nrefused NoSuchHandle: party 0 has no debt 0\n",
+);
+
+/// Only the last of the handles on a group leaves a debt, and neither it nor a dropped handle is a type.
+const LAST_OF_TWO: (&str, &str) = (
+    r#"[
+        {"do":"type","sub":{"func":[[],[]]}},
+        {"do":"clone","handle":0},
+        {"do":"drop","handle":0},
+        {"do":"drop","handle":1},
+        {"do":"clone","handle":1},
+        {"do":"drop","handle":0}
+    ]"#,
+    "type 0 index 0\ntype 1 index 0\ndropped\nowed\nrefused NoSuchHandle: party 0 has no type 1\nrefused NoSuchHandle: party 0 has no type 0\n",
+);
+
+/// A root of another party is a handle of its own.
+const ROOTED_BY_ANOTHER: (&str, &str) = (
+    r#"[
+        {"do":"type","sub":{"func":[[],[]]}},
+        {"do":"root","by":1,"index":0},
+        {"do":"drop","handle":0},
+        {"do":"drop","by":1,"handle":0}
+    ]"#,
+    "type 0 index 0\ntype 0 index 0\ndropped\nowed\n",
+);
+
+const ROOTS_OF_NONE: (&str, &str) = (
+    r#"[{"do":"root","index":4294967295},{"do":"root","index":7}]"#,
+    "none\nnone\n",
+);
+
+/// A held type is no debt.
+const SWEEP_OF_A_TYPE: (&str, &str) = (
+    r#"[{"do":"type","sub":{"func":[[],[]]}},{"do":"sweep","handle":0}]"#,
+    "type 0 index 0\nrefused NoSuchHandle: party 0 has no debt 0\n",
+);
+
+const SWEEP_OF_NOTHING: (&str, &str) = (
+    r#"[{"do":"sweep","handle":0}]"#,
+    "refused NoSuchHandle: party 0 has no debt 0\n",
+);
+
+const HANDLES_OF_NOBODY: (&str, &str) = (
+    r#"[{"do":"clone","by":2,"handle":0},{"do":"drop","by":2,"handle":3}]"#,
+    "refused NoSuchHandle: party 2 has no type 0\nrefused NoSuchHandle: party 2 has no type 3\n",
+);
+
 #[test]
-fn refuses_other_parties(rt: HostRuntime) -> Result<(), Fail> {
+fn answers_on_handles(rt: HostRuntime) -> Result<(), Fail> {
+    let rows = [
+        SWEPT_TWICE,
+        REGISTERED_AGAIN,
+        HELD_AGAIN,
+        LAST_OF_TWO,
+        ROOTED_BY_ANOTHER,
+        ROOTS_OF_NONE,
+        SWEEP_OF_A_TYPE,
+        SWEEP_OF_NOTHING,
+        HANDLES_OF_NOBODY,
+    ];
+    for (input, output) in rows {
+        let (answered, written) = outcome(rt.alloc(), "run", input, &[], &[])?;
+        assert_eq!(rt; answered, Status::Done, "on {input}");
+        assert_eq!(rt; written.as_slice(), output.as_bytes(), "on {input}");
+    }
+    Ok(())
+}
+
+#[test]
+fn refuses_other_numbers(rt: HostRuntime) -> Result<(), Fail> {
     let rows = [
         r#"[{"by":4294967296,"do":"live"}]"#,
         r#"[{"by":1.5,"do":"live"}]"#,
         r#"[{"by":-1,"do":"live"}]"#,
         r#"[{"by":null,"do":"live"}]"#,
         r#"[{"by":1,"do":"live","x":1}]"#,
+        r#"[{"do":"drop","handle":1.5}]"#,
     ];
     for input in rows {
         let (answered, written) = outcome(rt.alloc(), "run", input, &[], &[])?;
@@ -110,6 +220,22 @@ fn answers_faults(rt: HostRuntime) -> Result<(), Fail> {
         )?;
         assert_eq!(rt; answered, status, "at {failing_read} and {failing_write}");
         assert_eq!(rt; written.as_slice(), output.as_bytes());
+    }
+    Ok(())
+}
+
+#[test]
+fn refuses_long_input(rt: HostRuntime) -> Result<(), Fail> {
+    let alloc = rt.alloc();
+    let mut words = Vec::new(alloc);
+    words.push(Text::from_str(alloc, "run")?)?;
+    for (length, status) in [(LIMIT, Status::NotJson), (LIMIT + 1, Status::TooLong)] {
+        let blanks = vec![in alloc; b' '; length]?;
+        let mut source = MemorySource::new(blanks, Vec::new(alloc), 4096);
+        let mut sink = MemorySink::new(alloc, Vec::new(alloc), 1);
+        let answered = run(alloc, words.as_slice(), &mut source, &mut sink);
+        assert_eq!(rt; answered, status, "at {length}");
+        assert!(rt; sink.bytes().is_empty(), "at {length}");
     }
     Ok(())
 }

@@ -1,14 +1,15 @@
 //! The reply lines.
 
 ghost use Rattle.std.specs.Prelude.{◌≡◌, ◌++◌, IfOk, OnOk, string_bytes};
-ghost use Rattle.wt_program.specs.Text.{limit_word, indices_text, group_text, live_line, full_text, refused_line, line_of, text_of};
+ghost use Rattle.wt_program.specs.Text.{limit_word, indices_text, group_text, word_line, swept_line, live_line, full_text, kind_word, no_such_handle_text, refused_line, line_of, text_of};
 
 use std::alloc::Global;
 use wt_env::limits::Limit;
 use wt_env::memory::OutOfMemory;
+use wt_registry::debt::Swept;
 use wt_registry::live::LiveGroup;
 use wt_registry::refusal::Full;
-use wt_session::reply::{Refusal, Reply};
+use wt_session::reply::{HandleKind, Refusal, Reply};
 
 fn limit_word(limit: Limit) -> &'static str
     ensures { result.now ≡ limit_word limit }
@@ -30,12 +31,53 @@ fn push_made(text: &mut String, handle: u64, index: u32) -> Result<(), OutOfMemo
     Ok(())
 }
 
+/// Adds a line of one word.
+fn push_word(text: &mut String, word: &str) -> Result<(), OutOfMemory>
+    ensures { OnOk result (string_bytes text.new ≡ string_bytes text.old ++ word_line word.now) }
+{
+    text.push_str(word)?;
+    text.push_str("\n")?;
+    Ok(())
+}
+
+fn push_swept(text: &mut String, swept: Swept) -> Result<(), OutOfMemory>
+    ensures { OnOk result (string_bytes text.new ≡ string_bytes text.old ++ swept_line swept) }
+{
+    match swept {
+        Swept::Removed(count) => Ok(writeln!(text, "removed {count}")?),
+        Swept::Kept => push_word(text, "kept"),
+        Swept::Gone => push_word(text, "gone"),
+    }
+}
+
 fn push_full(text: &mut String, full: Full) -> Result<(), OutOfMemory>
     ensures { OnOk result (string_bytes text.new ≡ string_bytes text.old ++ full_text full) }
 {
     let limit = limit_word(full.limit);
     let Full { bound, wanted, .. } = full;
     write!(text, "Full: {limit} {bound}, wanted {wanted}")?;
+    Ok(())
+}
+
+fn kind_word(kind: HandleKind) -> &'static str
+    ensures { result.now ≡ kind_word kind }
+{
+    match kind {
+        HandleKind::Type => "type",
+        HandleKind::Debt => "debt",
+    }
+}
+
+fn push_no_such_handle(
+    text: &mut String,
+    party: u32,
+    kind: HandleKind,
+    handle: u32,
+) -> Result<(), OutOfMemory>
+    ensures { OnOk result (string_bytes text.new ≡ string_bytes text.old ++ no_such_handle_text party kind handle) }
+{
+    let kind = kind_word(kind);
+    write!(text, "NoSuchHandle: party {party} has no {kind} {handle}")?;
     Ok(())
 }
 
@@ -78,6 +120,11 @@ fn push_refused(text: &mut String, refusal: &Refusal) -> Result<(), OutOfMemory>
     text.push_str("refused ")?;
     match refusal {
         Refusal::Full(full) => push_full(text, *full)?,
+        Refusal::NoSuchHandle {
+            party,
+            kind,
+            handle,
+        } => push_no_such_handle(text, *party, *kind, *handle)?,
     }
     text.push_str("\n")?;
     Ok(())
@@ -89,6 +136,10 @@ fn push_line(text: &mut String, reply: &Reply) -> Result<(), OutOfMemory>
 {
     match reply {
         Reply::TypeMade { handle, index } => push_made(text, *handle, *index),
+        Reply::NoneFound => push_word(text, "none"),
+        Reply::Owed => push_word(text, "owed"),
+        Reply::Dropped => push_word(text, "dropped"),
+        Reply::Swept(swept) => push_swept(text, *swept),
         Reply::Live(groups) => push_live(text, groups.as_slice()),
         Reply::Refused(refusal) => push_refused(text, refusal),
     }
@@ -141,6 +192,39 @@ mod tests {
             lines.as_str(),
             "type 0 index 0\nlive 2 #1[0] #2[1 2]\nrefused Full: groups 1, wanted 2\n"
         );
+        Ok(())
+    }
+
+    #[test]
+    fn writes_what_handles_answer(rt: HostRuntime) -> Result<(), Fail> {
+        let rows = [
+            (Reply::NoneFound, "none\n"),
+            (Reply::Owed, "owed\n"),
+            (Reply::Dropped, "dropped\n"),
+            (Reply::Swept(Swept::Removed(12)), "removed 12\n"),
+            (Reply::Swept(Swept::Kept), "kept\n"),
+            (Reply::Swept(Swept::Gone), "gone\n"),
+            (
+                Reply::Refused(Refusal::NoSuchHandle {
+                    party: 2,
+                    kind: HandleKind::Type,
+                    handle: 3,
+                }),
+                "refused NoSuchHandle: party 2 has no type 3\n",
+            ),
+            (
+                Reply::Refused(Refusal::NoSuchHandle {
+                    party: 15,
+                    kind: HandleKind::Debt,
+                    handle: 4294967295,
+                }),
+                "refused NoSuchHandle: party 15 has no debt 4294967295\n",
+            ),
+        ];
+        for (reply, want) in rows {
+            let lines = text(rt.alloc(), &[reply])?;
+            assert_eq!(rt; lines.as_str(), want);
+        }
         Ok(())
     }
 }

@@ -1,5 +1,5 @@
 -- A registration of a group of one type, in the words of the registry that the groups stand for.
-use Rattle.std.proofs.Common.{◌≡◌, ℕ, ◌+◌, ◌<◌, ◌≤◌, ◌==◌, Bool, true, false, cond, List, [], ◌∷◌, ◌++◌, length, map, slice_get, slice_index, Option, Some, None, Ok, Err, inl, inr, refl, sym, ap, subst, ◌∙◌, arith}
+use Rattle.std.proofs.Common.{◌≡◌, ℕ, ◌+◌, ◌<◌, ◌≤◌, ◌==◌, Bool, true, false, cond, List, [], ◌∷◌, ◌++◌, length, slice_get, slice_index, Option, Some, None, Ok, Err, inl, inr, refl, sym, ap, subst, ◌∙◌, arith}
 use Rattle.std.specs.List.{find}
 use Rattle.wt_env.specs.Limits.{EngineParts}
 use Rattle.wt_env.specs.Equality.{rec_group_eq}
@@ -11,12 +11,14 @@ use Rattle.wt_registry.specs.declared.counts.Count.{Count}
 use Rattle.wt_registry.specs.declared.entry.Entry.{Entry}
 use Rattle.wt_registry.specs.declared.entry.Given.{Given}
 use Rattle.wt_registry.specs.declared.refusal.Full.{Full}
-use Rattle.wt_registry.specs.Registry.{Made, Standing, Among, used, is_used, smallest_free, describe, hold, held_at, held_as, held_by, registered, first_full, AreCounted, AreStanding}
+use Rattle.wt_registry.specs.Registry.{Made, Standing, Among, used, is_used, smallest_free, describe, hold, held_at, held_as, held_by, registered, first_full}
+use Rattle.wt_registry.specs.Sound.{AreCounted, AreStanding}
 use Rattle.wt_registry.specs.Counts.{standing_of, standings_of}
 use Rattle.wt_registry.specs.Entries.{made_by, IsOneFunction, IsKept, registry_of, entered_as, wanted_at}
 use Rattle.wt_registry.proofs.Registration.{enter-full, enter-added, enter-found, new_entry, one_more}
 use Rattle.wt_registry.proofs.Holding.{next_is_new, first_held, hold-first, hold-first-full}
 use Rattle.wt_registry.proofs.Kept.{kept_push}
+use Rattle.wt_registry.proofs.Among.{among_mapped}
 
 abbrev pub by_key : WasmRecGroup → List Entry → Option Entry
 by_key group entries = find (λ entry. rec_group_eq entry.group group) entries
@@ -77,11 +79,6 @@ registered-held_out engine entries given standings party group entry index full 
     ∙ ap (held_as (entered_as entry.number (describe (made_by entries) (one.member ∷ [])) index)) holds)
 
 -- ---- counts
-
-pub among_mapped : {A B : Type 0} (f : A → B) (xs : List A) (x : A) → Among x xs → Among (f x) (map f xs)
-among_mapped f [] x at = absurd at
-among_mapped f (y ∷ ys) x (inl same) = inl (ap f same)
-among_mapped f (y ∷ ys) x (inr later) = inr (among_mapped f ys x later)
 
 pub counted : (engine : EngineParts) (made : List Made) (standings : List Standing) → AreStanding engine made standings → AreCounted engine standings
 counted engine made standings stands = record { parties = stands.parties; bounded = stands.bounded }

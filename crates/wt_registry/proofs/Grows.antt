@@ -1,12 +1,14 @@
 -- What an accepted registration changes.
 use Rattle.std.proofs.Common.{◌≡◌, ℕ, ◌+◌, ◌<◌, ◌==◌, ◌⊎◌, inl, inr, Bool, true, false, cond, List, [], ◌∷◌, ◌++◌, length, map, slice_index, Option, Some, None, Result, Ok, Err, refl, sym, ap, subst, ◌∙◌, arith}
 use Rattle.std.proofs.lemmas.List.{map-append, length-replicate}
+use Rattle.wt_env.specs.declared.types.VMSharedTypeIndex.{VMSharedTypeIndex}
 use Rattle.wt_tree.specs.Tree.{Description, close, tree_eq}
 use Rattle.wt_registry.specs.declared.refusal.Full.{Full}
-use Rattle.wt_registry.specs.Registry.{Made, Registry, Standing, Among, IsSound, trees, find_tree, new_group, new_standing, with_group, wanted_for, first_full, added_unless, found_or_added, held_at, waiting, change, gained, hold, held_as, held_by, registered, Grows}
-use Rattle.wt_registry.proofs.Registration.{found_passes, among_map}
-use Rattle.wt_registry.proofs.Kept.{among_last}
-use Rattle.wt_registry.proofs.Adding.{among_mapped}
+use Rattle.wt_registry.specs.Registry.{Made, Registry, Standing, Among, trees, number_of, find_tree, new_group, new_standing, with_group, wanted_for, first_full, added_unless, found_or_added, held_at, waiting, change, gained, hold, held_as, held_by, registered}
+use Rattle.wt_registry.specs.Sound.{IsSound, Grows}
+use Rattle.wt_registry.proofs.Registration.{found_passes}
+use Rattle.wt_registry.proofs.Among.{among_map, among_mapped, among_last}
+use Rattle.wt_registry.proofs.Located.{located-pushed}
 use Rattle.wt_registry.proofs.Holding.{slice_index-zeros}
 use Rattle.wt_registry.proofs.HeldMore.{with_more}
 use Rattle.wt_registry.proofs.Standings.{held_at-gained, held_at-gained-other, among-pushed}
@@ -138,11 +140,24 @@ grows-held old mid party group enters within = record {
       ∙ ap (λ (n : ℕ). n + 1) (enters.held party group.number);
   others = λ p n other. held_at-gained-other mid.standings party group.number p n other ∙ enters.held p n;
   waiting = λ n at. enters.waits n (waiting-gained mid.standings party group.number n at);
+  located = λ i n is. still enters.made i n is;
 }
   where
+    still : (mid.made ≡ old.made) ⊎ (mid.made ≡ old.made ++ group ∷ []) → (i : VMSharedTypeIndex) (n : ℕ) → number_of old.made i ≡ Some n → number_of mid.made i ≡ Some n
+    still (inl same) i n is = ap (λ made. number_of made i) same ∙ is
+    still (inr more) i n is = ap (λ made. number_of made i) more ∙ located-pushed old.made (group ∷ []) i n is
+
     by : (mid.made ≡ old.made) ⊎ (mid.made ≡ old.made ++ group ∷ []) → (mid.made ≡ old.made) ⊎ ((g : Made) × (mid.made ≡ old.made ++ g ∷ []) × (g.number ≡ group.number))
     by (inl same) = inl same
     by (inr more) = inr (group, more, refl)
+
+-- the group that a registration answers is registered
+pub registered-among : (old new : Registry) (party : ℕ) (description : Description) (group : Made) → IsSound old
+    → registered old party description ≡ Ok (group, new) → Among group new.made
+registered-among old new party description group sound h =
+    let tree = close (trees old.made) description in
+    let from = from_found old party description (find_tree old.made tree) group new sound (λ made is. (found_passes (λ (m : Made). tree_eq (trees old.made m.number) tree) old.made made is).1) h in
+    subst (λ (r : Registry). Among group r.made) (with_more from.0 new party group.number from.2) from.1.registered
 
 pub registered-grows : (old new : Registry) (party : ℕ) (description : Description) (group : Made) → IsSound old → party < old.engine.limits.parties
     → registered old party description ≡ Ok (group, new) → Grows old new party group.number

@@ -2,7 +2,8 @@
 use Rattle.std.proofs.Common.{◌≡◌, ℕ, ◌+◌, ◌<◌, ◌≤◌, ◌==◌, ◌⊎◌, inl, inr, Bool, true, false, cond, List, [], ◌∷◌, map, slice_index, nat_lt, Option, Some, None, option_map, Ok, Err, refl, sym, subst, arith}
 use Rattle.wt_env.specs.declared.types.VMSharedTypeIndex.{VMSharedTypeIndex}
 use Rattle.wt_registry.specs.declared.refusal.Full.{Full}
-use Rattle.wt_registry.specs.Registry.{Made, Registry, Standing, Hold, Among, IsSound, IsHeld, place_in, located_here, locate, held_at, change, gained, full_of_holds, hold}
+use Rattle.wt_registry.specs.Registry.{Made, Registry, Standing, Hold, Among, IsHeld, place_in, located_here, locate, number_of, held_at, change, gained, full_of_holds, hold}
+use Rattle.wt_registry.specs.Sound.{IsSound}
 use Rattle.wt_registry.proofs.Standings.{held_at-gained}
 
 -- what is located is in a registered group
@@ -50,9 +51,10 @@ with_more registry new party number h =
     split_hold (nat_lt registry.engine.limits.holds (held_at registry.standings party number + 1)) (full_of_holds registry party number) (record registry { standings = change number (gained party) registry.standings }) new h
 
 pub held-more : (registry new : Registry) (held : Hold) → IsSound registry → held.party < registry.engine.limits.parties → registry.engine.number ≡ held.engine
-    → Among held.number (map (λ s. s.number) registry.standings) → hold registry held.party held.number ≡ Ok new → IsHeld new held
-held-more registry new held sound within engine stands h =
-    subst (λ (r : Registry). IsHeld r held) (with_more registry new held.party held.number h) (record { engine = engine; party = within; held = more })
+    → Among held.number (map (λ s. s.number) registry.standings) → number_of registry.made held.index ≡ Some held.number
+    → hold registry held.party held.number ≡ Ok new → IsHeld new held
+held-more registry new held sound within engine stands located h =
+    subst (λ (r : Registry). IsHeld r held) (with_more registry new held.party held.number h) (record { engine = engine; party = within; held = more; located = located })
   where
     more : 1 ≤ held_at (change held.number (gained held.party) registry.standings) held.party held.number
     more =

@@ -9,7 +9,8 @@ use Rattle.wt_registry.specs.declared.counts.Count.{Count}
 use Rattle.wt_registry.specs.declared.entry.Entry.{Entry}
 use Rattle.wt_registry.specs.declared.entry.Given.{Given}
 use Rattle.wt_registry.specs.declared.refusal.Full.{Full}
-use Rattle.wt_registry.specs.Registry.{Made, Standing, IsRising, is_held, held_at, change, gained, hold, AreStanding}
+use Rattle.wt_registry.specs.Registry.{Made, Standing, is_held, held_at, change, gained, hold}
+use Rattle.wt_registry.specs.Sound.{IsRising, AreStanding}
 use Rattle.wt_registry.specs.Counts.{standing_of}
 use Rattle.wt_registry.specs.Entries.{registry_of}
 use Rattle.wt_registry.proofs.Registration.{unheld}

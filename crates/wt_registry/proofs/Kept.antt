@@ -17,9 +17,12 @@ use Rattle.wt_registry.specs.declared.entry.Given.{Given}
 use Rattle.wt_registry.specs.declared.groups.Groups.{Groups}
 use Rattle.wt_registry.specs.declared.refusal.Full.{Full}
 use Rattle.wt_registry.specs.Counts.{entries_without}
-use Rattle.wt_registry.specs.Registry.{Made, Among, trees, closed_tree, place_in, located_here, locate, member_here, sub_type_at, used, is_used, first_full, IsRising, OneIndexPerTree, NamesOlder, IsLocated, IsSound}
+use Rattle.wt_registry.specs.Registry.{Made, Among, trees, closed_tree, place_in, located_here, locate, member_here, sub_type_at, used, is_used, first_full}
+use Rattle.wt_registry.specs.Sound.{IsRising, OneIndexPerTree, NamesOlder, IsLocated, IsSound}
 use Rattle.wt_registry.specs.Entries.{made_of, made_by, IsPlain, Differ, AreApart, IsKept, AreKept, registry_at, wanted_at}
-use Rattle.wt_registry.proofs.Registration.{all_among, all_push, among_map, tree_at-plain, none_passes, new_entry, one_more}
+use Rattle.wt_registry.proofs.Registration.{all_among, all_push, tree_at-plain, none_passes, new_entry, one_more}
+use Rattle.wt_registry.proofs.Among.{among_map}
+use Rattle.wt_registry.proofs.Reached.{are_reached}
 
 -- ---- sound
 
@@ -124,6 +127,7 @@ sound engine groups kept = record {
   names_older = names_older engine groups.entries.items groups.given kept.entries;
   is_located = is_located engine groups.entries.items groups.given kept.entries;
   are_standing = kept.counts;
+  reached = are_reached (registry_at engine groups) (names_older engine groups.entries.items groups.given kept.entries) kept.counts;
 }
 
 -- ---- kept by a new entry
@@ -252,10 +256,6 @@ borrowed-located (e ∷ es) i plain =
     subst (λ indices. P indices (number_group e.group.types)) (sym own.indices) (subst (P (own.index ∷ [])) (sym members) plain_case)
 
 -- ---- the closed tree of an index
-
-pub among_last : {A : Type 0} (xs : List A) (x : A) → Among x (xs ++ x ∷ [])
-among_last [] x = inl refl
-among_last (y ∷ ys) x = inr (among_last ys x)
 
 -- the index of an entry is that of a type whose tree is the entry's
 pub closed_tree-entry : (engine : EngineParts) (entries : List Entry) (given : Given) (entry : Entry) (index : VMSharedTypeIndex) → IsKept engine entries given → Among entry entries → slice_get entry.indices 0 ≡ Some index → closed_tree (made_by entries) index ≡ Some (record { tree = group entry.group.types none; place = 0 })

@@ -1,4 +1,5 @@
 pub mod Adding
+pub mod Among
 pub mod Found
 pub mod FreeIndices
 pub mod Grows
@@ -6,7 +7,11 @@ pub mod Held
 pub mod HeldMore
 pub mod Holding
 pub mod Kept
+pub mod Located
+pub mod Loses
 pub mod OneTree
 pub mod Plain
+pub mod Reached
 pub mod Registration
 pub mod Standings
+pub mod Sweeps

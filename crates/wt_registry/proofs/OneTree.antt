@@ -2,7 +2,8 @@
 use Rattle.std.proofs.Common.{◌≡◌, ℕ, ◌==◌, inl, inr, Bool, true, false, IsTrue, ◌&&◌, List, [], ◌∷◌, ◌++◌, length, slice_get, Option, Some, None, IsSome, option_map, refl, sym, ap, subst, ◌∙◌, arith}
 use Rattle.wt_env.specs.declared.types.VMSharedTypeIndex.{VMSharedTypeIndex}
 use Rattle.wt_tree.specs.Tree.{ClosedTree}
-use Rattle.wt_registry.specs.Registry.{Made, Hold, Among, OneIndexPerTree, trees, closed_tree, place_in, located_here, locate}
+use Rattle.wt_registry.specs.Registry.{Made, Hold, Among, trees, closed_tree, place_in, located_here, locate}
+use Rattle.wt_registry.specs.Sound.{OneIndexPerTree}
 use Rattle.wt_registry.proofs.Found.{found_from}
 
 get_passed : (passed : List VMSharedTypeIndex) (i : VMSharedTypeIndex) (rest : List VMSharedTypeIndex) → slice_get (passed ++ i ∷ rest) (length passed) ≡ Some i

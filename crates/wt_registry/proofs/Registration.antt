@@ -16,7 +16,8 @@ use Rattle.wt_tree.specs.Tree.{Tree, group, none, close_outer, close, tree_eq}
 use Rattle.wt_registry.specs.declared.entry.Entry.{Entry}
 use Rattle.wt_registry.specs.declared.entry.Given.{Given}
 use Rattle.wt_registry.specs.declared.refusal.Full.{Full}
-use Rattle.wt_registry.specs.Registry.{Made, Standing, Among, with_tree, trees_from, trees, located, used, smallest_free, describe, tree_of, find_tree, new_group, given_with, wanted_for, first_full, added_unless, found_or_added, enter, IsRising}
+use Rattle.wt_registry.specs.Registry.{Made, Standing, Among, with_tree, trees_from, trees, located, used, smallest_free, describe, tree_of, find_tree, new_group, given_with, wanted_for, first_full, added_unless, found_or_added, enter}
+use Rattle.wt_registry.specs.Sound.{IsRising}
 use Rattle.wt_registry.specs.Entries.{made_of, made_by, IsPlain, IsOneFunction, IsKept, registry_of, entered_as, wanted_at}
 use Rattle.wt_registry.proofs.Plain.{group_refs-plain, number_group-plain}
 
@@ -30,11 +31,6 @@ all_among P (y ∷ ys) x all (inr later) = all_among P ys x all.1 later
 pub all_push : {A : Type 0} (P : A → Type 0) (xs : List A) (x : A) → AllByRecursion P xs → P x → AllByRecursion P (xs ++ x ∷ [])
 all_push P [] x all h = (h, tt)
 all_push P (y ∷ ys) x all h = (all.0, all_push P ys x all.1 h)
-
-pub among_map : {A B : Type 0} (f : A → B) (xs : List A) (y : B) → Among y (map f xs) → (x : A) × Among x xs × (y ≡ f x)
-among_map f [] y at = absurd at
-among_map f (x ∷ xs) y (inl same) = (x, inl refl, same)
-among_map f (x ∷ xs) y (inr later) = let found = among_map f xs y later in (found.0, inr found.1, found.2)
 
 find_here : {A B : Type 0} (f : A → B) (b c : Bool) (x : A) (found : Option A) (rest : Option B) → b ≡ c → rest ≡ option_map f found → cond c (Some (f x)) rest ≡ option_map f (cond b (Some x) found)
 find_here f true c x found rest h g = ap (λ b. cond b (Some (f x)) rest) (sym h)

@@ -3,7 +3,8 @@ use Rattle.std.proofs.Common.{◌≡◌, ◌≢◌, ◌⊎◌, ℕ, zero, suc, �
 use Rattle.std.specs.List.{find}
 use Rattle.std.proofs.lemmas.List.{map-append, get_or-set_same, get_or-set_other}
 use Rattle.wt_env.specs.Limits.{EngineParts}
-use Rattle.wt_registry.specs.Registry.{Standing, Made, Among, AreStanding, is_held, held_at, change, gained, lost, made_without, standings_without}
+use Rattle.wt_registry.specs.Registry.{Standing, Made, Among, is_held, held_at, change, gained, lost, made_without, standings_without}
+use Rattle.wt_registry.specs.Sound.{AreStanding}
 
 -- ---- one party's holds
 

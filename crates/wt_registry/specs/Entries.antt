@@ -15,7 +15,8 @@ use Rattle.wt_registry.specs.declared.refusal.Full.{Full}
 use Rattle.wt_env.specs.declared.limits.EngineLimits.{EngineLimits}
 use Rattle.wt_env.specs.declared.limits.Limit.TheVariants as kinds
 use Rattle.wt_registry.specs.Counts.{standings_of}
-use Rattle.wt_registry.specs.Registry.{Made, Standing, Registry, IsRising, AreStanding}
+use Rattle.wt_registry.specs.Registry.{Made, Standing, Registry}
+use Rattle.wt_registry.specs.Sound.{IsRising, AreStanding}
 
 -- a key with the registrations that its references name, as a description says it
 abbrev pub made_of : Entry → Made

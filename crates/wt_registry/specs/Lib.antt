@@ -3,3 +3,4 @@ pub mod Entries
 pub mod Live
 pub mod Reach
 pub mod Registry
+pub mod Sound

@@ -1,5 +1,5 @@
 -- A registry as contracts see it: what was made, and what a registration does.
-use Rattle.std.specs.Prelude.{◌≡◌, ◌≢◌, ◌↔◌, ℕ, zero, suc, ◌+◌, ◌-◌, ◌<◌, ◌≤◌, ◌==◌, ◌⊎◌, List, [], ◌∷◌, ◌++◌, length, map, replicate, slice_get, slice_index, slice_set, Bool, false, not, nat_lt, if◌then◌else◌, Option, Some, None, option_map, unwrap_or, Result, Ok, Err}
+use Rattle.std.specs.Prelude.{◌≡◌, ℕ, zero, suc, ◌+◌, ◌-◌, ◌<◌, ◌≤◌, ◌==◌, ◌⊎◌, List, [], ◌∷◌, ◌++◌, length, map, replicate, slice_get, slice_index, slice_set, Bool, false, not, nat_lt, if◌then◌else◌, Option, Some, None, option_map, unwrap_or, Result, Ok, Err}
 use Rattle.std.specs.Hash as fed
 use Rattle.std.specs.List.{find, flat_map, list_any, position_from}
 use Rattle.wt_env.specs.Limits.{EngineParts}
@@ -73,6 +73,10 @@ located_here number None later = later
 abbrev pub locate : List Made → VMSharedTypeIndex → Option (ℕ × ℕ)
 locate [] i = None
 locate (made ∷ rest) i = located_here made.number (place_in i made.indices) (locate rest i)
+
+-- the registration number of the type that has this index
+abbrev pub number_of : List Made → VMSharedTypeIndex → Option ℕ
+number_of made i = option_map (λ at. at.0) (locate made i)
 
 -- the closed tree of the type that has this index
 abbrev pub closed_tree : List Made → VMSharedTypeIndex → Option ClosedTree
@@ -275,11 +279,12 @@ pub record Hold : Type 0 where
 abbrev pub hold_feed : Hold → List (List ℕ)
 hold_feed hold = fed.u64 hold.engine ++ fed.u32 hold.index.0
 
--- The hold is one of a party on a group of this registry: what it takes to end it.
+-- The hold is one of a party on a group of this registry, which has the hold's index: what it takes to use it.
 pub record IsHeld (registry : Registry) (hold : Hold) : Type 0 where
   pub engine : registry.engine.number ≡ hold.engine
   pub party : hold.party < registry.engine.limits.parties
   pub held : 1 ≤ held_at registry.standings hold.party hold.number
+  pub located : number_of registry.made hold.index ≡ Some hold.number
 
 abbrev pub hold_of : ℕ → ℕ → Made → Hold
 hold_of engine party made = record { engine = engine; index = unwrap_or (slice_get made.indices 0) (record { 0 = 0 }); number = made.number; party = party }
@@ -315,58 +320,3 @@ rooted registry party index None = Ok (None, registry)
 -- One more hold of the type that has this index; there may be none.
 abbrev pub root : Registry → ℕ → VMSharedTypeIndex → Result (Option Hold × Registry) Full
 root registry party index = rooted registry party index (locate registry.made index)
-
--- ---- what is true of every registry
-
--- The numbers rise from above low, and none is above top.
-abbrev pub IsRising : ℕ → List Made → ℕ → Type 0
-IsRising low [] top = low ≤ top
-IsRising low (made ∷ rest) top = (low < made.number) × IsRising made.number rest top
-
--- two registered types have one index exactly where their closed trees are equal
-abbrev pub OneIndexPerTree : List Made → Type 0
-OneIndexPerTree made =
-    (a b : Made) (j k : ℕ) (i l : VMSharedTypeIndex) → Among a made → Among b made
-    → slice_get a.indices j ≡ Some i → slice_get b.indices k ≡ Some l
-    → (i ≡ l) ↔ ((trees made a.number ≡ trees made b.number) × (j ≡ k))
-
--- each reference that leaves a group names a place of an older registered group
-abbrev pub NamesOlder : List Made → Type 0
-NamesOlder made =
-    (a : Made) (reference : ℕ × ℕ) → Among a made → Among reference a.description.outer
-    → (reference.0 < a.number) × (b : Made) × Among b made × (b.number ≡ reference.0)
-
--- each index of a registered group is located at its place in that group
-abbrev pub IsLocated : List Made → Type 0
-IsLocated made =
-    (a : Made) (j : ℕ) (i : VMSharedTypeIndex) → Among a made
-    → slice_get a.indices j ≡ Some i → locate made i ≡ Some (a.number, j)
-
--- the counts have a place for each party, and none passes the limit
-pub record AreCounted (engine : EngineParts) (standings : List Standing) : Type 0 where
-  pub parties : (s : Standing) → Among s standings → length s.holds ≡ engine.limits.parties
-  pub bounded : (s : Standing) (party : ℕ) → Among s standings → slice_index s.holds party ≤ engine.limits.holds
-
--- what keeps a group is told for each, and a group waits exactly where nobody holds it
-pub record AreStanding (engine : EngineParts) (made : List Made) (standings : List Standing) : Type 0 where
-  pub numbers : map (λ s. s.number) standings ≡ map (λ m. m.number) made
-  pub parties : (s : Standing) → Among s standings → length s.holds ≡ engine.limits.parties
-  pub bounded : (s : Standing) (party : ℕ) → Among s standings → slice_index s.holds party ≤ engine.limits.holds
-  pub waits : (s : Standing) → Among s standings → s.waits ≡ not (is_held s.holds)
-
-pub record IsSound (registry : Registry) : Type 0 where
-  pub rising : IsRising 0 registry.made registry.given.numbers
-  pub one_index : OneIndexPerTree registry.made
-  pub names_older : NamesOlder registry.made
-  pub is_located : IsLocated registry.made
-  pub are_standing : AreStanding registry.engine registry.made registry.standings
-
--- What a registration changes: a group with this number is registered now, and no other was added; the party
--- has one more hold of it, and no other hold was changed; no group waits that didn't.
-pub record Grows (old new : Registry) (party number : ℕ) : Type 0 where
-  pub engine : new.engine ≡ old.engine
-  pub registered : (group : Made) × Among group new.made × (group.number ≡ number)
-  pub made : (new.made ≡ old.made) ⊎ ((group : Made) × (new.made ≡ old.made ++ group ∷ []) × (group.number ≡ number))
-  pub more : held_at new.standings party number ≡ held_at old.standings party number + 1
-  pub others : (p n : ℕ) → (p ≢ party) ⊎ (n ≢ number) → held_at new.standings p n ≡ held_at old.standings p n
-  pub waiting : (n : ℕ) → Among n (waiting new.standings) → Among n (waiting old.standings)

@@ -6,7 +6,8 @@ ghost use Rattle.std.specs.Option.{option_copied};
 ghost use Rattle.wt_env.specs.Equality.{rec_group_eq};
 ghost use Rattle.wt_registry.specs.declared.entry.Entry.{Entry as EntryOf};
 ghost use Rattle.wt_registry.specs.declared.entry.Given.{Given as GivenOf};
-ghost use Rattle.wt_registry.specs.Registry.{describe, hold, registered, held_at, change, gained, closed_tree, tree_of, first_full, Made, AreCounted, AreStanding};
+ghost use Rattle.wt_registry.specs.Registry.{describe, hold, registered, held_at, change, gained, closed_tree, tree_of, first_full, Made};
+ghost use Rattle.wt_registry.specs.Sound.{AreCounted, AreStanding};
 ghost use Rattle.wt_registry.specs.Counts.{standings_of};
 ghost use Rattle.wt_registry.specs.Entries.{made_by, registry_of, registry_at, AreKept, IsOneFunction, entered_as, wanted_at};
 

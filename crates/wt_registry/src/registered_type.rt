@@ -1,6 +1,6 @@
 //! Holds of registered types, and the parties that have them.
 
-ghost use Rattle.std.specs.Prelude.{◌≡◌, ◌<◌, ◌≤◌, [], ◌∷◌, IfOk, OnErr, Ok, Err, Some, IsSome, true};
+ghost use Rattle.std.specs.Prelude.{◌≡◌, ◌<◌, ◌≤◌, [], ◌∷◌, IfOk, OnErr, Ok, Err, Some, true};
 ghost use Rattle.wt_tree.specs.NumberFunction.{is_number, is_number_function};
 ghost use Rattle.wt_registry.specs.Registry.{IsHeld};
 
@@ -98,7 +98,8 @@ impl Hash for RegisteredType {
 
 impl RegisteredType {
     ghost use Rattle.wt_registry.specs.Registry.{drop as drop_of};
-    ghost use Rattle.wt_registry.specs.Registry.{IsSound, Grows, locate, sub_type_at, register, root as root_of, hold, closed_tree, tree_of};
+    ghost use Rattle.wt_registry.specs.Registry.{sub_type_at, register, root as root_of, hold, closed_tree, tree_of};
+    ghost use Rattle.wt_registry.specs.Sound.{IsSound, Grows, Loses};
 
     /// Registers a type for a party, and gives the party one hold of it. A type whose closed tree is that
     /// of a registered one is that one, with its index. Otherwise it gets the smallest free index.
@@ -231,7 +232,7 @@ impl RegisteredType {
 
     /// The type.
     pub fn ty<'r>(&self, registry: &'r TypeRegistry) -> &'r WasmSubType
-        requires { IsSome (locate registry.now.made self.now.index) }
+        requires { IsHeld registry.now self.now }
         ensures { sub_type_at registry.now.made self.now.index ≡ Some result.now }
     {
         registry.borrow(self.index).unwrap()
@@ -243,9 +244,11 @@ impl RegisteredType {
         requires owner { party.old ≡ self.party }
         requires held { IsHeld registry.old self }
         ensures dropped { drop_of registry.old party.old self.number ≡ (result, registry.new) }
+        ensures loses { Loses registry.old registry.new party.old self.number }
         ensures same_party { party.new ≡ party.old }
         ensures sound { IsSound registry.new }
     {
+        registry.assure();
         let number = self.number;
         self.forget();
         registry.end_hold(party.number(), number)

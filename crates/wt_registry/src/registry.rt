@@ -39,7 +39,8 @@ impl TypeRegistry {
     ghost use Rattle.std.specs.Option.{option_copied};
     ghost use Rattle.wt_tree.specs.NumberFunction.{is_number_function};
     ghost use Rattle.wt_registry.specs.Registry as registry;
-    ghost use Rattle.wt_registry.specs.Registry.{IsSound, empty_registry, locate, sub_type_at, describe, registered, hold, held_at, closed_tree, tree_of};
+    ghost use Rattle.wt_registry.specs.Registry.{empty_registry, locate, sub_type_at, describe, registered, hold, held_at, closed_tree, tree_of};
+    ghost use Rattle.wt_registry.specs.Sound.{IsSound, Sweeps};
     ghost use Rattle.wt_registry.specs.Entries.{entered_as};
     ghost use Rattle.wt_registry.specs.Live.{live_of};
 
@@ -104,6 +105,7 @@ impl TypeRegistry {
     /// there. It takes no memory, and is never refused.
     pub fn sweep(&mut self, debt: Debt) -> Swept
         ensures swept { registry.sweep self.old debt ≡ (result, self.new) }
+        ensures sweeps { Sweeps self.old self.new }
         ensures sound { IsSound self.new }
     {
         let number = debt.number();

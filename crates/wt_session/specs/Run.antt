@@ -1,12 +1,13 @@
 -- What a session answers to commands, and what they change.
-use Rattle.std.specs.Prelude.{ℕ, ◌+◌, nat_lt, if◌then◌else◌, List, [], ◌∷◌, length, map, true, None, Result, Ok, Err}
+use Rattle.std.specs.Prelude.{ℕ, ◌+◌, nat_lt, if◌then◌else◌, List, [], ◌∷◌, ◌++◌, length, map, slice_set, true, Option, Some, None, Result, Ok, Err}
 use Rattle.wt_env.specs.declared.types.WasmValType.{WasmValType}
 use Rattle.wt_env.specs.declared.types.WasmValType.TheVariants as val
 use Rattle.wt_env.specs.declared.types.WasmCompositeInnerType.TheVariants as shape
 use Rattle.wt_env.specs.declared.types.WasmSubType.{WasmSubType}
 use Rattle.wt_env.specs.declared.limits.Limit.TheVariants.{Parties}
+use Rattle.wt_registry.specs.declared.debt.Swept.{Swept}
 use Rattle.wt_registry.specs.declared.refusal.Full.{Full}
-use Rattle.wt_registry.specs.Registry.{Registry, Hold, register}
+use Rattle.wt_registry.specs.Registry.{Registry, Hold, register, root as rooted, hold as held, drop as dropped, sweep as swept}
 use Rattle.wt_registry.specs.Live.{live_of}
 use Rattle.wt_session.specs.declared.command.HostVal.{HostVal}
 use Rattle.wt_session.specs.declared.command.HostVal.TheVariants as host
@@ -14,11 +15,14 @@ use Rattle.wt_session.specs.declared.command.HostSub.{HostSub}
 use Rattle.wt_session.specs.declared.command.HostSub.TheVariants as host_sub
 use Rattle.wt_session.specs.declared.command.Command.{Command}
 use Rattle.wt_session.specs.declared.command.Command.TheVariants as command
+use Rattle.wt_session.specs.declared.handle.Handle.{Handle}
 use Rattle.wt_session.specs.declared.handle.Handle.TheVariants as handle
+use Rattle.wt_session.specs.declared.reply.HandleKind.TheVariants as kind
+use Rattle.wt_session.specs.declared.reply.Refusal.{Refusal}
 use Rattle.wt_session.specs.declared.reply.Refusal.TheVariants as refusal
 use Rattle.wt_session.specs.declared.reply.Reply.{Reply}
 use Rattle.wt_session.specs.declared.reply.Reply.TheVariants as reply
-use Rattle.wt_session.specs.World.{World, party_of, row_of, with_handle}
+use Rattle.wt_session.specs.World.{World, party_of, row_of, type_at, debt_at}
 
 -- a value type that the host names
 abbrev pub val_type_of : HostVal → WasmValType
@@ -36,22 +40,84 @@ sub_type_of (host_sub.Func params results) = record {
   composite_type = shape.Func (record { params = map val_type_of params; results = map val_type_of results });
 }
 
--- the reply to a registration by a party, and the session after it
-abbrev pub type_made : World → ℕ → Result (Hold × Registry) Full → Reply × World
-type_made world party (Ok registered) = (
-  reply.TypeMade (length (row_of party world.handles)) registered.0.index.0,
-  record world { registry = registered.1; handles = with_handle party (handle.Type registered.0) world.handles },
-)
-type_made world party (Err full) = (reply.Refused (refusal.Full full), world)
+-- ---- one command, on its party's handles
+
+-- what a command comes to: the reply, the registry after it, and the party's handles after it
+pub record Outcome : Type 0 where
+  pub reply : Reply
+  pub registry : Registry
+  pub row : List Handle
+
+-- a refused command changes nothing
+abbrev pub refused : Registry → List Handle → Refusal → Outcome
+refused registry row why = record { reply = reply.Refused why; registry = registry; row = row }
+
+-- one handle more, on a type
+abbrev pub with_type : List Handle → Hold → Registry → Outcome
+with_type row hold after = record { reply = reply.TypeMade (length row) hold.index.0; registry = after; row = row ++ handle.Type hold ∷ [] }
+
+-- a registration
+abbrev pub type_made : Registry → List Handle → Result (Hold × Registry) Full → Outcome
+type_made registry row (Ok made) = with_type row made.0 made.1
+type_made registry row (Err full) = refused registry row (refusal.Full full)
+
+abbrev pub held_again : Registry → List Handle → Hold → Result Registry Full → Outcome
+held_again registry row hold (Ok after) = with_type row hold after
+held_again registry row hold (Err full) = refused registry row (refusal.Full full)
+
+-- one handle more on the type of a handle
+abbrev pub clone_made : Registry → List Handle → ℕ → ℕ → Option Hold → Outcome
+clone_made registry row party place (Some hold) = held_again registry row hold (held registry party hold.number)
+clone_made registry row party place None = refused registry row (refusal.NoSuchHandle party kind.Type place)
+
+-- a handle on the type that has an index
+abbrev pub root_made : Registry → List Handle → Result (Option Hold × Registry) Full → Outcome
+root_made registry row (Ok (Some hold, after)) = with_type row hold after
+root_made registry row (Ok (None, after)) = record { reply = reply.NoneFound; registry = after; row = row }
+root_made registry row (Err full) = refused registry row (refusal.Full full)
+
+abbrev pub hold_ended : List Handle → ℕ → Option ℕ × Registry → Outcome
+hold_ended row place (Some number, after) = record { reply = reply.Owed; registry = after; row = slice_set row place (handle.Owed number) }
+hold_ended row place (None, after) = record { reply = reply.Dropped; registry = after; row = slice_set row place handle.Ended }
+
+-- the end of a handle on a type
+abbrev pub type_dropped : Registry → List Handle → ℕ → ℕ → Option Hold → Outcome
+type_dropped registry row party place (Some hold) = hold_ended row place (dropped registry party hold.number)
+type_dropped registry row party place None = refused registry row (refusal.NoSuchHandle party kind.Type place)
+
+abbrev pub debt_ended : List Handle → ℕ → Swept × Registry → Outcome
+debt_ended row place (did, after) = record { reply = reply.Swept did; registry = after; row = slice_set row place handle.Ended }
+
+-- the sweep of a debt
+abbrev pub debt_swept : Registry → List Handle → ℕ → ℕ → Option ℕ → Outcome
+debt_swept registry row party place (Some number) = debt_ended row place (swept registry number)
+debt_swept registry row party place None = refused registry row (refusal.NoSuchHandle party kind.Debt place)
+
+-- What a command comes to, for a party below the limit that has these handles.
+abbrev pub outcome_of : Registry → List Handle → Command → Outcome
+outcome_of registry row (command.HostType by sub) = type_made registry row (register registry by (sub_type_of sub))
+outcome_of registry row (command.Clone by place) = clone_made registry row by place (type_at row place)
+outcome_of registry row (command.Root by index) = root_made registry row (rooted registry by (record { 0 = index }))
+outcome_of registry row (command.Drop by place) = type_dropped registry row by place (type_at row place)
+outcome_of registry row (command.Sweep by place) = debt_swept registry row by place (debt_at row place)
+outcome_of registry row (command.Live by) = record { reply = reply.Live (live_of registry.made); registry = registry; row = row }
+
+-- ---- commands in turn
 
 -- the limit that a party's number passes
 abbrev pub full_of_parties : World → ℕ → Full
 full_of_parties world party = record { limit = Parties; bound = world.registry.engine.limits.parties; wanted = party + 1 }
 
+abbrev pub with_outcome : World → ℕ → Outcome → Reply × World
+with_outcome world party outcome = (
+  outcome.reply,
+  record world { registry = outcome.registry; handles = slice_set world.handles party outcome.row },
+)
+
 -- the reply to a command by a party below the limit, and the session after it
 abbrev pub done_by : World → Command → Reply × World
-done_by world (command.HostType by sub) = type_made world by (register world.registry by (sub_type_of sub))
-done_by world (command.Live by) = (reply.Live (live_of world.registry.made), world)
+done_by world command =
+    with_outcome world (party_of command) (outcome_of world.registry (row_of (party_of command) world.handles) command)
 
 -- The reply to one command, and the session after it.
 abbrev pub step : World → Command → Reply × World

@@ -1,16 +1,13 @@
 -- The session that the fields stand for, and what is kept true of them.
-use Rattle.std.specs.Prelude.{◌≡◌, ℕ, ◌-◌, ◌≤◌, ◌⊎◌, List, [], ◌∷◌, ◌++◌, length, map, replicate, Result, Ok, Err}
-use Rattle.std.specs.List.{flat_map}
+use Rattle.std.specs.Prelude.{◌≡◌, ◌≢◌, ℕ, ◌-◌, ◌≤◌, List, [], ◌++◌, length, map, replicate, Some}
 use Rattle.wt_env.specs.Limits.{EngineParts}
-use Rattle.wt_registry.specs.declared.refusal.Full.{Full}
-use Rattle.wt_registry.specs.Registry.{Made, Registry, Hold, Among, IsSound, Grows, waiting, empty_registry}
+use Rattle.wt_env.specs.declared.types.VMSharedTypeIndex.{VMSharedTypeIndex}
+use Rattle.wt_registry.specs.Registry.{Registry, Hold, Among, number_of, held_at, empty_registry}
+use Rattle.wt_registry.specs.Sound.{IsSound}
 use Rattle.wt_session.specs.declared.handle.Handle.{Handle}
 use Rattle.wt_session.specs.declared.handle.Handle.TheVariants as handle
 use Rattle.wt_session.specs.declared.rows.Row.{Row}
-use Rattle.wt_session.specs.declared.reply.Refusal.TheVariants as refusal
-use Rattle.wt_session.specs.declared.reply.Reply.{Reply}
-use Rattle.wt_session.specs.declared.reply.Reply.TheVariants as reply
-use Rattle.wt_session.specs.World.{World, held_in, no_counts}
+use Rattle.wt_session.specs.World.{World, no_counts, held_in, times, row_of}
 
 -- a session of the engine in which nothing was done
 abbrev pub new_world : EngineParts → World
@@ -35,23 +32,29 @@ world_of registry rows = record {
   counts = no_counts;
 }
 
--- the groups are those that the handles hold
+-- A party's handles are its holds: it holds each group as often as handles hold it, and each handle on a type
+-- is one of the engine and the party, with an index of its group.
+pub record AreHandles (registry : Registry) (party : ℕ) (row : List Handle) : Type 0 where
+  pub counted : (number : ℕ) → held_at registry.standings party number ≡ times number (held_in row)
+  pub engine : (hold : Hold) → Among (handle.Type hold) row → registry.engine.number ≡ hold.engine
+  pub owner : (hold : Hold) → Among (handle.Type hold) row → hold.party ≡ party
+  pub located : (hold : Hold) → Among (handle.Type hold) row → number_of registry.made hold.index ≡ Some hold.number
+
+-- a registry that is kept true for the parties that have these handles
 pub record IsKept (registry : Registry) (rows : List (List Handle)) : Type 0 where
   pub sound : IsSound registry
   pub parties : length rows ≤ registry.engine.limits.parties
-  pub waiting : waiting registry.standings ≡ []
-  pub every : (group : Made) → Among group registry.made → Among group.number (flat_map held_in rows)
-  pub only : (number : ℕ) → Among number (flat_map held_in rows) → (group : Made) × Among group registry.made × (group.number ≡ number)
+  pub handles : (party : ℕ) → AreHandles registry party (row_of party rows)
 
--- the reply to a registration, the registry after it, and the party's handles after it
-abbrev pub row_after : List Handle → Registry → Result (Hold × Registry) Full → Reply × (Registry × List Handle)
-row_after row registry (Ok registered) =
-    (reply.TypeMade (length row) registered.0.index.0, (registered.1, row ++ handle.Type registered.0 ∷ []))
-row_after row registry (Err full) = (reply.Refused (refusal.Full full), (registry, row))
-
--- After a registration the engine is the same and nothing more waits. Either nothing changed, or the party
--- has one more handle, on a registered group, and no other group was added.
-pub record Extends (old : Registry) (row : List Handle) (party : ℕ) (new : Registry) (row' : List Handle) : Type 0 where
+-- what the command of a party leaves to others: the engine, and their holds with their indices
+pub record Spares (old new : Registry) (party : ℕ) : Type 0 where
   pub engine : new.engine ≡ old.engine
-  pub waiting : (n : ℕ) → Among n (waiting new.standings) → Among n (waiting old.standings)
-  pub change : ((new.made ≡ old.made) × (row' ≡ row)) ⊎ ((hold : Hold) × (row' ≡ row ++ handle.Type hold ∷ []) × Grows old new party hold.number)
+  pub holds : (p n : ℕ) → p ≢ party → held_at new.standings p n ≡ held_at old.standings p n
+  pub located : (i : VMSharedTypeIndex) (p n : ℕ) → p ≢ party → 1 ≤ held_at old.standings p n
+      → number_of old.made i ≡ Some n → number_of new.made i ≡ Some n
+
+-- what a party's command on its handles keeps true
+pub record Keeps (old new : Registry) (party : ℕ) (row : List Handle) : Type 0 where
+  pub sound : IsSound old → IsSound new
+  pub handles : AreHandles new party row
+  pub spares : Spares old new party

@@ -1,12 +1,15 @@
 -- A session as contracts see it, and which groups are registered in it.
-use Rattle.std.specs.Prelude.{◌≡◌, ℕ, zero, suc, List, [], ◌∷◌, ◌++◌}
+use Rattle.std.specs.Prelude.{◌≡◌, ℕ, ◌+◌, ◌==◌, zero, suc, if◌then◌else◌, List, [], ◌∷◌, ◌++◌, slice_get, Bool, true, false, Option, Some, None}
 use Rattle.std.specs.List.{flat_map}
-use Rattle.wt_registry.specs.Registry.{Made, Registry, Among, IsRising, waiting}
+use Rattle.wt_registry.specs.Registry.{Made, Registry, Hold, Among, waiting}
+use Rattle.wt_registry.specs.Sound.{IsRising}
 use Rattle.wt_registry.specs.Reach.{Reach}
 use Rattle.wt_session.specs.declared.command.Command.{Command}
 use Rattle.wt_session.specs.declared.command.Command.TheVariants as command
 use Rattle.wt_session.specs.declared.handle.Handle.{Handle}
 use Rattle.wt_session.specs.declared.handle.Handle.TheVariants as handle
+use Rattle.wt_session.specs.declared.reply.HandleKind.{HandleKind}
+use Rattle.wt_session.specs.declared.reply.HandleKind.TheVariants as kind
 
 -- how many of each were made so far, over all parties
 pub record Counts : Type 0 where
@@ -27,14 +30,47 @@ no_counts = record { stores = 0; modules = 0; components = 0; component_instance
 -- the party whose command it is
 abbrev pub party_of : Command → ℕ
 party_of (command.HostType by sub) = by
+party_of (command.Clone by place) = by
+party_of (command.Root by index) = by
+party_of (command.Drop by place) = by
+party_of (command.Sweep by place) = by
 party_of (command.Live by) = by
+
+-- the handle that a command names, with the kind that it has to be of
+abbrev pub named_by : Command → Option (HandleKind × ℕ)
+named_by (command.HostType by sub) = None
+named_by (command.Clone by place) = Some (kind.Type, place)
+named_by (command.Root by index) = None
+named_by (command.Drop by place) = Some (kind.Type, place)
+named_by (command.Sweep by place) = Some (kind.Debt, place)
+named_by (command.Live by) = None
+
+-- a drop and a sweep take no memory
+abbrev pub takes_memory : Command → Bool
+takes_memory (command.HostType by sub) = true
+takes_memory (command.Clone by place) = true
+takes_memory (command.Root by index) = true
+takes_memory (command.Drop by place) = false
+takes_memory (command.Sweep by place) = false
+takes_memory (command.Live by) = true
+
+-- drops and sweeps alone
+abbrev pub TakeNoMemory : List Command → Type 0
+TakeNoMemory commands = (command : Command) → Among command commands → takes_memory command ≡ false
 
 -- the registration numbers that a handle holds
 abbrev pub held_by : Handle → List ℕ
 held_by (handle.Type hold) = hold.number ∷ []
+held_by (handle.Owed number) = []
+held_by handle.Ended = []
 
 abbrev pub held_in : List Handle → List ℕ
 held_in row = flat_map held_by row
+
+-- how often a number stands in a list
+abbrev pub times : ℕ → List ℕ → ℕ
+times n [] = 0
+times n (m ∷ rest) = if m == n then times n rest + 1 else times n rest
 
 -- the registration numbers that all parties' handles hold
 abbrev pub holds : World → List ℕ
@@ -57,8 +93,22 @@ row_of party [] = []
 row_of zero (row ∷ rows) = row
 row_of (suc party) (row ∷ rows) = row_of party rows
 
--- the handles of all parties, after one more of this party's
-abbrev pub with_handle : ℕ → Handle → List (List Handle) → List (List Handle)
-with_handle party new [] = []
-with_handle zero new (row ∷ rows) = (row ++ new ∷ []) ∷ rows
-with_handle (suc party) new (row ∷ rows) = row ∷ with_handle party new rows
+abbrev pub type_in : Option Handle → Option Hold
+type_in None = None
+type_in (Some (handle.Type hold)) = Some hold
+type_in (Some (handle.Owed number)) = None
+type_in (Some handle.Ended) = None
+
+-- the hold of a type handle
+abbrev pub type_at : List Handle → ℕ → Option Hold
+type_at row place = type_in (slice_get row place)
+
+abbrev pub debt_in : Option Handle → Option ℕ
+debt_in None = None
+debt_in (Some (handle.Type hold)) = None
+debt_in (Some (handle.Owed number)) = Some number
+debt_in (Some handle.Ended) = None
+
+-- the registration number of the group that a debt's party is to sweep
+abbrev pub debt_at : List Handle → ℕ → Option ℕ
+debt_at row place = debt_in (slice_get row place)

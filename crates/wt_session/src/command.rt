@@ -1,5 +1,6 @@
 //! What a party can ask of a session.
 
+use crate::reply::HandleKind;
 use wt_env::seq::Seq;
 
 /// A value type as a command of the host names it.
@@ -27,13 +28,21 @@ pub enum HostSub {
 pub enum Command {
     /// Registers a type, and takes a handle on it.
     HostType { by: u32, sub: HostSub },
+    /// Takes one more handle on the type of a handle.
+    Clone { by: u32, handle: u32 },
+    /// Takes a handle on the type that has this index.
+    Root { by: u32, index: u32 },
+    /// Drops a handle on a type.
+    Drop { by: u32, handle: u32 },
+    /// Sweeps the group of a debt. The debt has the number of the handle that was dropped.
+    Sweep { by: u32, handle: u32 },
     /// Tells which groups are registered.
     Live { by: u32 },
 }
 
 impl Command {
     ghost use Rattle.std.specs.Prelude.{◌≡◌};
-    ghost use Rattle.wt_session.specs.World.{party_of};
+    ghost use Rattle.wt_session.specs.World.{party_of, named_by};
 
     /// The number of the party whose command it is.
     pub fn by(&self) -> u32
@@ -41,7 +50,23 @@ impl Command {
     {
         match self {
             Command::HostType { by, sub: _ } => *by,
+            Command::Clone { by, handle: _ } => *by,
+            Command::Root { by, index: _ } => *by,
+            Command::Drop { by, handle: _ } => *by,
+            Command::Sweep { by, handle: _ } => *by,
             Command::Live { by } => *by,
+        }
+    }
+
+    /// The handle that the command names, with the kind that it has to be of.
+    pub(crate) fn named(&self) -> Option<(HandleKind, u32)>
+        ensures { result ≡ named_by self.now }
+    {
+        match self {
+            Command::Clone { by: _, handle } => Some((HandleKind::Type, *handle)),
+            Command::Drop { by: _, handle } => Some((HandleKind::Type, *handle)),
+            Command::Sweep { by: _, handle } => Some((HandleKind::Debt, *handle)),
+            _ => None,
         }
     }
 }

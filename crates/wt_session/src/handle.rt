@@ -1,5 +1,6 @@
 //! What a party holds.
 
+use wt_registry::debt::Debt;
 use wt_registry::registered_type::RegisteredType;
 
 /// What one of a party's handles stands for. Its number is its place among the party's handles.
@@ -7,6 +8,10 @@ use wt_registry::registered_type::RegisteredType;
 pub enum Handle {
     /// A registered type, which the party holds.
     Type(RegisteredType),
+    /// A type that was dropped, and whose group the party is to sweep.
+    Owed(Debt),
+    /// Nothing any more.
+    Ended,
 }
 
 impl Handle {
@@ -14,6 +19,8 @@ impl Handle {
     pub(crate) fn forget(self) {
         match self {
             Handle::Type(hold) => hold.forget(),
+            Handle::Owed(debt) => debt.forget(),
+            Handle::Ended => {}
         }
     }
 }

@@ -1,7 +1,7 @@
 //! Facts that follow from the contracts, each carried by a call.
 
 ghost use Rattle.std.specs.Prelude.{◌≡◌, ℕ, ◌≤◌, ◌++◌, length, take, OnOk, OnErr};
-ghost use Rattle.wt_registry.specs.Registry.{OneIndexPerTree};
+ghost use Rattle.wt_registry.specs.Sound.{OneIndexPerTree};
 ghost use Rattle.wt_session.specs.World.{HasExactlyReached};
 ghost use Rattle.wt_session.specs.Run.{replies_of, world_after};
 

@@ -1,12 +1,13 @@
 //! Sessions: parties, their handles, their commands and the replies.
 #![tactic(auto)]
 
+mod acting;
 pub mod command;
 pub mod handle;
 mod host;
 pub mod laws;
-mod registration;
 pub mod reply;
 pub mod rows;
 pub mod run;
 pub mod session;
+mod type_handles;

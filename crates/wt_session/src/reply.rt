@@ -1,14 +1,30 @@
 //! What a session answers to a command.
 
 use wt_env::seq::Seq;
+use wt_registry::debt::Swept;
 use wt_registry::live::LiveGroup;
 use wt_registry::refusal::Full;
+
+/// What a handle stands for, as a command needs it.
+#[derive(Clone, Copy, Debug, PartialEq, Eq)]
+pub enum HandleKind {
+    /// A registered type that the party holds.
+    Type,
+    /// A group that waits for the party's sweep.
+    Debt,
+}
 
 /// Why a command was refused. A refused command changes nothing.
 #[derive(Clone, Copy, Debug, PartialEq, Eq)]
 pub enum Refusal {
     /// A limit would be passed.
     Full(Full),
+    /// The party has no handle of this kind under this number.
+    NoSuchHandle {
+        party: u32,
+        kind: HandleKind,
+        handle: u32,
+    },
 }
 
 /// The answer to one command.
@@ -17,6 +33,15 @@ pub enum Reply {
     /// A handle on a type was made: its number, over all handles of the party from 0, and the index of
     /// the type.
     TypeMade { handle: u64, index: u32 },
+    /// No registered type has the index.
+    NoneFound,
+    /// The handle was dropped, and its number is that of a debt now: nobody holds the type's group any more,
+    /// which waits for a sweep.
+    Owed,
+    /// The handle was dropped, and nothing is owed.
+    Dropped,
+    /// What a sweep did. The debt is spent.
+    Swept(Swept),
     /// The registered groups, in order of their registration numbers.
     Live(Seq<LiveGroup>),
     /// The command was refused.

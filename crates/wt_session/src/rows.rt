@@ -1,6 +1,6 @@
 //! The handles of each party, by the party's number.
 
-ghost use Rattle.std.specs.Prelude.{◌≡◌, ◌<◌, ◌≤◌, ℕ, length, OnOk, vec_len, vec_capacity};
+ghost use Rattle.std.specs.Prelude.{◌≡◌, ◌<◌, ◌≤◌, ℕ, length, OnOk, IsOk, vec_len, vec_capacity};
 ghost use Rattle.wt_session.specs.Session.{rows_of, padded};
 
 use crate::handle::Handle;
@@ -28,6 +28,7 @@ impl Row {
 
 /// Gives a row without handles to each party up to this one that has none.
 pub(crate) fn reach(alloc: Global, rows: &mut Vec<Row>, party: u32) -> Result<(), OutOfMemory>
+    ensures calm { party < length rows.old.items → IsOk result }
     ensures reached { OnOk result (party < length rows.new.items) }
     ensures within { (parties : ℕ) → party < parties → length rows.old.items ≤ parties → length rows.new.items ≤ parties }
     ensures same { (parties : ℕ) → party < parties → length rows.old.items ≤ parties

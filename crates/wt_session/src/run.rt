@@ -1,8 +1,8 @@
 //! Runs of commands: one reply for each, in turn.
 
-ghost use Rattle.std.specs.Prelude.{◌≡◌, ℕ, ◌≤◌, ◌<◌, ◌+◌, ◌++◌, ◌∷◌, [], length, take, OnOk, OnErr, vec_len, vec_capacity};
-ghost use Rattle.wt_registry.specs.Registry.{OneIndexPerTree};
-ghost use Rattle.wt_session.specs.World.{HasExactlyReached};
+ghost use Rattle.std.specs.Prelude.{◌≡◌, ℕ, ◌≤◌, ◌<◌, ◌+◌, ◌++◌, ◌∷◌, [], length, take, OnOk, OnErr, IsOk, vec_len, vec_capacity};
+ghost use Rattle.wt_registry.specs.Sound.{OneIndexPerTree};
+ghost use Rattle.wt_session.specs.World.{HasExactlyReached, TakeNoMemory};
 ghost use Rattle.wt_session.specs.Run.{replies_of, world_after};
 
 use crate::command::Command;
@@ -21,6 +21,7 @@ fn run_all(
     ensures err { OnErr result ((n : ℕ) × (n ≤ length commands.now)
         × (replies.new.items ≡ replies.old.items ++ replies_of session.old (take n commands.now))
         × (session.new ≡ world_after session.old (take n commands.now))) }
+    ensures calm { TakeNoMemory commands.now → vec_len replies.old + length commands.now ≤ vec_capacity replies.old → IsOk result }
 {
     replies.reserve(commands.len())?;
     for command in commands {
@@ -36,7 +37,8 @@ fn run_all(
 /// are exactly those reached from what is held or waits for a sweep.
 ///
 /// The only refusal is want of memory. Then some of the commands from the first on are done and replied
-/// to, and no other is done in part.
+/// to, and no other is done in part. It never comes where each command is a drop or a sweep, and there is
+/// room for their replies.
 pub fn run_session(
     session: &mut Session,
     commands: &[Command],
@@ -47,6 +49,7 @@ pub fn run_session(
     ensures err { OnErr result ((n : ℕ) × (n ≤ length commands.now)
         × (replies.new.items ≡ replies.old.items ++ replies_of session.old (take n commands.now))
         × (session.new ≡ world_after session.old (take n commands.now))) }
+    ensures calm { TakeNoMemory commands.now → vec_len replies.old + length commands.now ≤ vec_capacity replies.old → IsOk result }
 
     ensures one_index { OneIndexPerTree session.new.registry.made }
     ensures reached { HasExactlyReached session.new }

@@ -1,7 +1,7 @@
 //! A session: an engine's registry, and what each party holds of it.
 
+use crate::acting::act_by;
 use crate::command::Command;
-use crate::registration::register_by;
 use crate::reply::{Refusal, Reply};
 use crate::rows::Row;
 use std::alloc::Global;
@@ -32,10 +32,10 @@ impl Model for Session {
 }
 
 impl Session {
-    ghost use Rattle.std.specs.Prelude.{◌≡◌, IfOk, OnErr};
-    ghost use Rattle.wt_registry.specs.Registry.{OneIndexPerTree};
+    ghost use Rattle.std.specs.Prelude.{◌≡◌, false, IfOk, OnErr, IsOk};
+    ghost use Rattle.wt_registry.specs.Sound.{OneIndexPerTree};
     ghost use Rattle.wt_registry.specs.Live.{live_of};
-    ghost use Rattle.wt_session.specs.World.{HasExactlyReached};
+    ghost use Rattle.wt_session.specs.World.{HasExactlyReached, takes_memory};
     ghost use Rattle.wt_session.specs.Run.{step};
     ghost use Rattle.wt_session.specs.Session.{new_world};
 
@@ -72,6 +72,7 @@ impl Session {
     pub(crate) fn step(&mut self, command: &Command) -> Result<Reply, OutOfMemory>
         ensures ok { IfOk result (λ reply. step self.old command.now ≡ (reply, self.new)) }
         ensures err { OnErr result (self.new ≡ self.old) }
+        ensures calm { takes_memory command.now ≡ false → IsOk result }
     {
         let party = command.by();
         let bound = self.registry.engine().limits().parties;
@@ -82,12 +83,13 @@ impl Session {
                 wanted: party as u64 + 1,
             })));
         }
-        match command {
-            Command::HostType { by: _, sub } => {
-                register_by(self.alloc, &mut self.registry, &mut self.rows, party, sub)
-            }
-            Command::Live { by: _ } => Ok(Reply::Live(self.registry.live()?)),
-        }
+        act_by(
+            self.alloc,
+            &mut self.registry,
+            &mut self.rows,
+            party,
+            command,
+        )
     }
 
     /// Gives the session up. It spends every handle, and takes no memory.

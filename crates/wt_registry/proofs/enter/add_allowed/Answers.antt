@@ -10,12 +10,14 @@ use Rattle.wt_env.specs.declared.types.VMSharedTypeIndex.{VMSharedTypeIndex}
 use Rattle.wt_registry.specs.declared.counts.Count.{Count}
 use Rattle.wt_registry.specs.declared.entry.Entry.{Entry}
 use Rattle.wt_registry.specs.declared.refusal.Full.{Full}
-use Rattle.wt_registry.specs.Registry.{Made, Standing, Among, used, is_used, describe, first_full, AreStanding}
+use Rattle.wt_registry.specs.Registry.{Made, Standing, Among, used, is_used, describe, first_full}
+use Rattle.wt_registry.specs.Sound.{AreStanding}
 use Rattle.wt_registry.specs.Counts.{standing_of, standings_of}
 use Rattle.wt_registry.specs.Entries.{made_of, made_by, IsOneFunction, IsKept, AreKept, entered_as, registry_of, wanted_at}
 use Rattle.wt_registry.proofs.Registration.{length-used, new_entry, one_more, tree_of-group}
 use Rattle.wt_registry.proofs.Holding.{first_held, standing_of-first, is_held-set, row_bounded}
-use Rattle.wt_registry.proofs.Kept.{among_last, closed_tree-entry}
+use Rattle.wt_registry.proofs.Kept.{closed_tree-entry}
+use Rattle.wt_registry.proofs.Among.{among_last}
 use Rattle.wt_registry.proofs.Adding.{by_key, registered-no_hold, registered-added, added-kept}
 use Rattle.wt_registry.proofs.Standings.{pushed-stands}
 use Rattle.wt_registry.proofs.enter.add_allowed.Goals as goal

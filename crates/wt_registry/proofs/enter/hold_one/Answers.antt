@@ -1,6 +1,7 @@
 -- a count has a place for the party, and stays within its type
 use Rattle.std.proofs.Common.{◌+◌, ◌≤◌, ◌^◌, sym, ap, subst, arith}
-use Rattle.wt_registry.specs.Registry.{AreStanding, held_at}
+use Rattle.wt_registry.specs.Registry.{held_at}
+use Rattle.wt_registry.specs.Sound.{AreStanding}
 use Rattle.wt_registry.specs.Counts.{standings_of}
 use Rattle.wt_registry.proofs.Adding.{HavePlaces, has_place, held_at-bounded}
 use Rattle.wt_registry.proofs.Standings.{gained-stands}

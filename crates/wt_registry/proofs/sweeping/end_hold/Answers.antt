@@ -1,6 +1,6 @@
 -- a hold less keeps what is kept
 use Rattle.std.proofs.Common.{sym, subst}
-use Rattle.wt_registry.specs.Registry.{AreStanding}
+use Rattle.wt_registry.specs.Sound.{AreStanding}
 use Rattle.wt_registry.specs.Counts.{standings_of}
 use Rattle.wt_registry.specs.Entries.{made_by}
 use Rattle.wt_registry.proofs.Adding.{counted, has_place}

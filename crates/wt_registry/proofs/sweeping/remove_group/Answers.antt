@@ -1,6 +1,7 @@
 -- what is left is what the definition leaves, and keeps what is kept
 use Rattle.std.proofs.Common.{◌≡◌, length, sym, ap, subst, ◌∙◌, arith}
-use Rattle.wt_registry.specs.Registry.{made_without, standings_without, AreStanding}
+use Rattle.wt_registry.specs.Registry.{made_without, standings_without}
+use Rattle.wt_registry.specs.Sound.{AreStanding}
 use Rattle.wt_registry.specs.Counts.{standings_of}
 use Rattle.wt_registry.specs.Entries.{made_by, IsKept}
 use Rattle.wt_registry.proofs.Held.{made_by-without}

@@ -12,6 +12,11 @@ loop-alloc-preserved c =
     let pushed = c.push_reserved.ensures.items ∙ ap (λ rows. rows ++ row ∷ []) c.in_ok-reserve.ensures.items in
     let long = ap length pushed ∙ length-append before (row ∷ []) in
     record {
+      grown = omega (arith, long, c.loop-alloc.invariant.grown);
       within = λ parties below old. omega (arith, long, c.loop-alloc-test.true, c.len.ensures, below);
       same = λ parties below old. padded-pushed parties before c.push_reserved.new.self.items row pushed c.new.ensures.items (omega (arith, c.loop-alloc-test.true, c.len.ensures, below)) ∙ c.loop-alloc.invariant.same parties below old;
     }
+
+pub returns-in_err-reserve-clause-calm : goal.returns-in_err-reserve-clause-calm
+returns-in_err-reserve-clause-calm c = λ there.
+    absurd (omega (arith, there, c.loop-alloc.invariant.grown, c.loop-alloc-test.true, c.len.ensures))

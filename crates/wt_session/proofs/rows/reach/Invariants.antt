@@ -5,6 +5,7 @@ use Rattle.wt_session.proofs.rows.reach.Given as goal
 
 abbrev pub invariant-loop-alloc : goal.invariant-loop-alloc
 invariant-loop-alloc l = record {
+  grown : length l.fn.rows.items ≤ length l.rows.items;
   within : (parties : ℕ) → l.party < parties → length l.fn.rows.items ≤ parties → length l.rows.items ≤ parties;
   same : (parties : ℕ) → l.party < parties → length l.fn.rows.items ≤ parties → padded parties (rows_of l.rows.items) ≡ padded parties (rows_of l.fn.rows.items);
 }

@@ -1,6 +1,8 @@
 -- one more command is done and replied to
-use Rattle.std.proofs.Common.{◌≡◌, ℕ, ◌+◌, ◌<◌, List, [], ◌∷◌, ◌++◌, length, take, sym, ap, ◌∙◌, append_assoc, arith}
+use Rattle.std.proofs.Common.{◌≡◌, ℕ, zero, suc, ◌+◌, ◌<◌, inl, inr, List, [], ◌∷◌, ◌++◌, length, take, get_or, sym, ap, ◌∙◌, append_assoc, arith}
+use Rattle.std.proofs.lemmas.Bool.{false≢true}
 use Rattle.std.proofs.lemmas.List.{take_more}
+use Rattle.wt_registry.specs.Registry.{Among}
 use Rattle.wt_session.specs.declared.command.Command.{Command}
 use Rattle.wt_session.specs.declared.reply.Reply.{Reply}
 use Rattle.wt_session.specs.World.{World}
@@ -37,3 +39,13 @@ loop-command-preserved c =
       world = both.1;
       room = omega (arith, c.push_reserved.ensures.len, c.push_reserved.ensures.capacity, c.loop-command.invariant.room, below);
     }
+
+among_read : (commands : List Command) (n : ℕ) (command : Command) → n < length commands → command ≡ get_or commands n command → Among command commands
+among_read [] n command below is = absurd (omega arith)
+among_read (first ∷ commands) zero command below is = inl is
+among_read (first ∷ commands) (suc n) command below is = inr (among_read commands n command (omega arith) is)
+
+pub returns-in_err-reply-clause-calm : goal.returns-in_err-reply-clause-calm
+returns-in_err-reply-clause-calm c = λ calm room.
+    let command = c.command-item.result in
+    absurd (false≢true (c.in_err-reply.ensures.calm (calm command (among_read c.args.commands.now c.loop-command.command-index command c.loop-command-test.true c.command-item.is))))

@@ -11,7 +11,7 @@ returns-in-Ok-clause-held c =
     let copy : Hold = record { engine = c.self.inside.engine; index = c.self.inside.index; number = c.self.inside.number; party = c.self.inside.party } in
     let held : IsHeld registry copy = subst (IsHeld registry) (sym c.self.view_is) c.requires.held in
     let owner : c.number.result ≡ copy.party = c.number.ensures ∙ c.requires.owner ∙ ap (λ (h : Hold). h.party) (sym c.self.view_is) in
-    held-more registry c.hold.new.self copy c.assure.ensures held.party held.engine (standing_held registry.standings copy.party copy.number held.held)
+    held-more registry c.hold.new.self copy c.assure.ensures held.party held.engine (standing_held registry.standings copy.party copy.number held.held) held.located
     (ap (λ (party : ℕ). hold registry party copy.number) (sym owner) ∙ c.in-Ok.ensures.ok)
 
 pub returns-in-Ok-clause-grows : goal.returns-in-Ok-clause-grows

@@ -1,7 +1,8 @@
 -- the new hold is one of a registered group
 use Rattle.std.proofs.Common.{◌≡◌, ℕ, ap, sym, subst, ◌∙◌, arith}
 use Rattle.wt_env.specs.Limits.{EngineParts}
-use Rattle.wt_registry.specs.Registry.{Hold, IsHeld, Grows, hold}
+use Rattle.wt_registry.specs.Registry.{Hold, IsHeld, hold}
+use Rattle.wt_registry.specs.Sound.{Grows}
 use Rattle.wt_registry.proofs.Grows.{hold-grows}
 use Rattle.wt_registry.proofs.HeldMore.{standing_numbered, held-more}
 use Rattle.wt_registry.proofs.registered_type.RegisteredType.try_root.Goals as goal
@@ -15,7 +16,7 @@ returns-in-Ok-clause-held c = λ found is.
     let engine : registry.engine.number ≡ made.engine = ap (λ (e : EngineParts). e.number) (sym c.engine.ensures) ∙ sym c.number-engine.ensures in
     subst (IsHeld c.hold.new.self) same
     (held-more registry c.hold.new.self made c.assure.ensures (omega (arith, c.number-in-Ok.ensures, c.requires)) engine
-    (standing_numbered registry c.args.index c.in-Some.number c.assure.ensures (sym c.in-Some.ensures))
+    (standing_numbered registry c.args.index c.in-Some.number c.assure.ensures (sym c.in-Some.ensures)) (sym c.in-Some.ensures)
     (ap (λ (party : ℕ). hold registry party made.number) (sym owner) ∙ c.in-Ok.ensures.ok))
 
 pub returns-in-Ok-clause-grows : goal.returns-in-Ok-clause-grows

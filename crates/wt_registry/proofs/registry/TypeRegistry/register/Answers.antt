@@ -5,7 +5,8 @@ use Rattle.wt_env.specs.declared.types.WasmSubType.{WasmSubType}
 use Rattle.wt_registry.specs.declared.refusal.BuildRefusal.{BuildRefusal}
 use Rattle.wt_registry.specs.declared.refusal.BuildRefusal.TheVariants as refusals
 use Rattle.wt_registry.specs.declared.refusal.Full.{Full}
-use Rattle.wt_registry.specs.Registry.{Made, Registry, IsSound, describe, registered, closed_tree, tree_of}
+use Rattle.wt_registry.specs.Registry.{Made, Registry, describe, registered, closed_tree, tree_of}
+use Rattle.wt_registry.specs.Sound.{IsSound}
 use Rattle.wt_registry.specs.Entries.{made_by, registry_at, entered_as}
 use Rattle.wt_registry.proofs.Kept.{sound}
 use Rattle.wt_registry.proofs.registry.TypeRegistry.register.Goals as goal

@@ -2,7 +2,7 @@
 use Rattle.std.proofs.Common.{subst}
 use Rattle.wt_session.specs.Session.{rows_of}
 use Rattle.wt_session.specs.World.{HasExactlyReached}
-use Rattle.wt_session.proofs.Kept.{reached}
+use Rattle.wt_session.proofs.Reached.{reached}
 use Rattle.wt_session.proofs.session.Session.registered.Goals as goal
 
 pub returns-clause-reached : goal.returns-clause-reached

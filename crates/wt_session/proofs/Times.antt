@@ -1,0 +1,100 @@
+-- How often a number stands among those that handles hold.
+use Rattle.std.proofs.Common.{◌≡◌, ℕ, zero, suc, ◌+◌, ◌≤◌, ◌==◌, ◌⊎◌, inl, inr, Bool, true, false, cond, List, [], ◌∷◌, ◌++◌, slice_get, slice_set, Some, refl, sym, ap, ◌∙◌, subst, arith}
+use Rattle.std.proofs.lemmas.Grind.{flat_map-append}
+use Rattle.wt_registry.specs.Registry.{Hold, Among}
+use Rattle.wt_session.specs.declared.handle.Handle.{Handle}
+use Rattle.wt_session.specs.declared.handle.Handle.TheVariants as handle
+use Rattle.wt_session.specs.World.{held_by, held_in, times}
+
+-- ---- lists
+
+pub among_left : {A : Type 0} (xs ys : List A) (x : A) → Among x xs → Among x (xs ++ ys)
+among_left [] ys x at = absurd at
+among_left (y ∷ xs) ys x (inl same) = inl same
+among_left (y ∷ xs) ys x (inr later) = inr (among_left xs ys x later)
+
+pub among_right : {A : Type 0} (xs ys : List A) (x : A) → Among x ys → Among x (xs ++ ys)
+among_right [] ys x at = at
+among_right (y ∷ xs) ys x at = inr (among_right xs ys x at)
+
+pub among_either : {A : Type 0} (xs ys : List A) (x : A) → Among x (xs ++ ys) → Among x xs ⊎ Among x ys
+among_either [] ys x at = inr at
+among_either (y ∷ xs) ys x (inl same) = inl (inl same)
+among_either (y ∷ xs) ys x (inr later) = elim (among_either xs ys x later) [ inl left ↦ inl (inr left) | inr right ↦ inr right ]
+
+pub among_one : {A : Type 0} (x y : A) → Among x (y ∷ []) → x ≡ y
+among_one x y (inl same) = same
+among_one x y (inr none) = absurd none
+
+-- ---- how often
+
+times-append : (n : ℕ) (xs ys : List ℕ) → times n (xs ++ ys) ≡ times n xs + times n ys
+times-append n [] ys = omega arith
+times-append n (x ∷ xs) ys = by (x == n) (times-append n xs ys)
+  where
+    by : (b : Bool) → times n (xs ++ ys) ≡ times n xs + times n ys → cond b (times n (xs ++ ys) + 1) (times n (xs ++ ys)) ≡ cond b (times n xs + 1) (times n xs) + times n ys
+    by true later = omega (arith, later)
+    by false later = later
+
+pub among-times : (n : ℕ) (xs : List ℕ) → Among n xs → 1 ≤ times n xs
+among-times n [] at = absurd at
+among-times n (x ∷ xs) at = by (x == n) refl at (among-times n xs)
+  where
+    by : (b : Bool) → (x == n) ≡ b → (n ≡ x) ⊎ Among n xs → (Among n xs → 1 ≤ times n xs) → 1 ≤ cond b (times n xs + 1) (times n xs)
+    by true e here later = omega arith
+    by false e (inl same) later = absurd (grind (arith, e, same))
+    by false e (inr there) later = later there
+
+pub times-among : (n : ℕ) (xs : List ℕ) → 1 ≤ times n xs → Among n xs
+times-among n [] some = absurd (omega (arith, some))
+times-among n (x ∷ xs) some = by (x == n) refl some (times-among n xs)
+  where
+    by : (b : Bool) → (x == n) ≡ b → 1 ≤ cond b (times n xs + 1) (times n xs) → (1 ≤ times n xs → Among n xs) → (n ≡ x) ⊎ Among n xs
+    by true e here later = inl (grind (arith, e))
+    by false e there later = inr (later there)
+
+-- ---- one handle more, or another in its place
+
+pub times-pushed : (n : ℕ) (row : List Handle) (hold : Hold) → times n (held_in (row ++ handle.Type hold ∷ [])) ≡ times n (held_in row) + times n (hold.number ∷ [])
+times-pushed n row hold = ap (times n) (flat_map-append held_by row (handle.Type hold ∷ [])) ∙ times-append n (held_in row) (hold.number ∷ [])
+
+same_handle : (a b : Handle) → Some a ≡ Some b → a ≡ b
+same_handle a b h = cc
+
+-- a handle that holds nothing stands where another stood
+pub times-ended : (n : ℕ) (row : List Handle) (place : ℕ) (old new : Handle) → slice_get row place ≡ Some old → held_by new ≡ []
+    → times n (held_in row) ≡ times n (held_in (slice_set row place new)) + times n (held_by old)
+times-ended n [] place old new is none = absurd (cc)
+times-ended n (h ∷ row) zero old new is none =
+    ap (λ (first : Handle). times n (held_in (first ∷ row))) (same_handle h old is)
+    ∙ times-append n (held_by old) (held_in row)
+    ∙ swapped (times n (held_by old)) (times n (held_in row))
+    ∙ ap (λ (held : List ℕ). times n (held ++ held_in row) + times n (held_by old)) (sym none)
+  where
+    swapped : (a b : ℕ) → a + b ≡ b + a
+    swapped a b = omega arith
+times-ended n (h ∷ row) (suc place) old new is none =
+    let later = times-ended n row place old new is none in
+    let before = times-append n (held_by h) (held_in row) in
+    let after = times-append n (held_by h) (held_in (slice_set row place new)) in
+    omega (arith, later, before, after)
+
+-- ---- the handles themselves
+
+pub held-handle : (row : List Handle) (hold : Hold) → Among (handle.Type hold) row → Among hold.number (held_in row)
+held-handle [] hold at = absurd at
+held-handle (h ∷ row) hold (inl same) = among_left (held_by h) (held_in row) hold.number (subst (λ (first : Handle). Among hold.number (held_by first)) same (inl refl))
+held-handle (h ∷ row) hold (inr later) = among_right (held_by h) (held_in row) hold.number (held-handle row hold later)
+
+-- what stands in a list with another in one place is that, or stood there
+pub among_set : (row : List Handle) (place : ℕ) (new h : Handle) → Among h (slice_set row place new) → Among h row ⊎ (h ≡ new)
+among_set [] place new h at = absurd at
+among_set (first ∷ row) zero new h (inl same) = inr same
+among_set (first ∷ row) zero new h (inr later) = inl (inr later)
+among_set (first ∷ row) (suc place) new h (inl same) = inl (inl same)
+among_set (first ∷ row) (suc place) new h (inr later) = elim (among_set row place new h later) [ inl there ↦ inl (inr there) | inr same ↦ inr same ]
+
+pub got-among : (row : List Handle) (place : ℕ) (h : Handle) → slice_get row place ≡ Some h → Among h row
+got-among [] place h is = absurd (cc)
+got-among (first ∷ row) zero h is = inl (sym (same_handle first h is))
+got-among (first ∷ row) (suc place) h is = inr (got-among row place h is)

@@ -1,0 +1,74 @@
+//! Commands of a party on its own handles.
+
+ghost use Rattle.std.specs.Prelude.{◌≡◌, ◌<◌, false, IfOk, OnErr, IsOk};
+ghost use Rattle.wt_session.specs.World.{party_of, takes_memory};
+ghost use Rattle.wt_session.specs.Run.{outcome_of, done_by};
+ghost use Rattle.wt_session.specs.Session.{rows_of, world_of, AreHandles, IsKept, Keeps};
+
+use crate::command::Command;
+use crate::handle::Handle;
+use crate::reply::Reply;
+use crate::rows::{Row, reach};
+use crate::type_handles::{
+    clone_type, drop_type, no_such_handle, register_type, root_type, sweep_debt,
+};
+use std::alloc::Global;
+use wt_env::memory::OutOfMemory;
+use wt_registry::registered_type::PartyNumber;
+use wt_registry::registry::TypeRegistry;
+
+/// One command of a party below the limit, on the party's handles.
+fn act(
+    alloc: Global,
+    registry: &mut TypeRegistry,
+    party: &mut PartyNumber,
+    row: &mut Vec<Handle>,
+    command: &Command,
+) -> Result<Reply, OutOfMemory>
+    requires by { party.old ≡ party_of command.now }
+    requires below { party.old < registry.old.engine.limits.parties }
+    requires handles { AreHandles registry.old party.old row.old.items }
+    ensures ok { IfOk result (λ reply. outcome_of registry.old row.old.items command.now
+        ≡ record { reply = reply; registry = registry.new; row = row.new.items }) }
+    ensures err { OnErr result ((registry.new ≡ registry.old) × (row.new.items ≡ row.old.items)) }
+    ensures keeps { Keeps registry.old registry.new party.old row.new.items }
+    ensures calm { takes_memory command.now ≡ false → IsOk result }
+{
+    match command {
+        Command::HostType { by: _, sub } => register_type(alloc, registry, party, row, sub),
+        Command::Clone { by: _, handle } => clone_type(registry, party, row, *handle),
+        Command::Root { by: _, index } => root_type(registry, party, row, *index),
+        Command::Drop { by: _, handle } => Ok(drop_type(registry, party, row, *handle)),
+        Command::Sweep { by: _, handle } => Ok(sweep_debt(registry, party, row, *handle)),
+        Command::Live { by: _ } => Ok(Reply::Live(registry.live()?)),
+    }
+}
+
+/// One command of a party below the limit. A drop and a sweep take no memory.
+pub(crate) fn act_by(
+    alloc: Global,
+    registry: &mut TypeRegistry,
+    rows: &mut Vec<Row>,
+    party: u32,
+    command: &Command,
+) -> Result<Reply, OutOfMemory>
+    requires by { party ≡ party_of command.now }
+    requires below { party < registry.old.engine.limits.parties }
+    requires kept { IsKept registry.old (rows_of rows.old.items) }
+    ensures ok { IfOk result (λ reply. done_by (world_of registry.old (rows_of rows.old.items)) command.now
+        ≡ (reply, world_of registry.new (rows_of rows.new.items))) }
+    ensures err { OnErr result (world_of registry.new (rows_of rows.new.items) ≡ world_of registry.old (rows_of rows.old.items)) }
+    ensures kept { IsKept registry.new (rows_of rows.new.items) }
+    ensures calm { takes_memory command.now ≡ false → IsOk result }
+{
+    if let Some((kind, handle)) = command.named() {
+        if rows.len() <= party as usize {
+            return Ok(no_such_handle(party, kind, handle));
+        }
+    }
+    reach(alloc, rows, party)?;
+    let mut number = PartyNumber::new(party);
+    let row = &mut rows[party as usize].handles;
+    let reply = act(alloc, registry, &mut number, row, command)?;
+    Ok(reply)
+}

@@ -1,0 +1,205 @@
+//! A party's handles on types: how they are made, dropped and swept.
+
+ghost use Rattle.std.specs.Prelude.{◌≡◌, ◌<◌, ◌++◌, ◌∷◌, [], length, IfOk, OnErr, Some, slice_get, slice_set, vec_len, vec_capacity};
+ghost use Rattle.std.specs.Option.{option_copied};
+ghost use Rattle.wt_registry.specs.Registry.{register, root as rooted};
+ghost use Rattle.wt_session.specs.World.{type_at, debt_at};
+ghost use Rattle.wt_session.specs.Run.{sub_type_of, type_made, clone_made, root_made, type_dropped, debt_swept};
+ghost use Rattle.wt_session.specs.Session.{AreHandles, Keeps};
+
+use crate::command::HostSub;
+use crate::handle::Handle;
+use crate::host::sub_type;
+use crate::reply::{HandleKind, Refusal, Reply};
+use std::alloc::Global;
+use std::mem;
+use wt_env::memory::OutOfMemory;
+use wt_env::types::VMSharedTypeIndex;
+use wt_registry::refusal::BuildRefusal;
+use wt_registry::registered_type::{PartyNumber, RegisteredType};
+use wt_registry::registry::TypeRegistry;
+
+/// The reply where a party has no handle of this kind under this number.
+pub(crate) fn no_such_handle(party: u32, kind: HandleKind, handle: u32) -> Reply
+    ensures { result ≡ Reply.Refused (Refusal.NoSuchHandle party kind handle) }
+{
+    Reply::Refused(Refusal::NoSuchHandle {
+        party,
+        kind,
+        handle,
+    })
+}
+
+/// Puts a handle after the others, and replies with its number.
+fn push_type(row: &mut Vec<Handle>, hold: RegisteredType) -> Reply
+    requires { vec_len row.old < vec_capacity row.old }
+    ensures reply { result ≡ Reply.TypeMade (length row.old.items) hold.index.0 }
+    ensures row { row.new.items ≡ row.old.items ++ Handle.Type hold ∷ [] }
+{
+    let reply = Reply::TypeMade {
+        handle: row.len() as u64,
+        index: hold.index().bits(),
+    };
+    row.push_reserved(Handle::Type(hold));
+    reply
+}
+
+/// Registers a type for a party, and gives the party a handle on it.
+pub(crate) fn register_type(
+    alloc: Global,
+    registry: &mut TypeRegistry,
+    party: &mut PartyNumber,
+    row: &mut Vec<Handle>,
+    sub: &HostSub,
+) -> Result<Reply, OutOfMemory>
+    requires below { party.old < registry.old.engine.limits.parties }
+    requires handles { AreHandles registry.old party.old row.old.items }
+    ensures ok { IfOk result (λ reply. type_made registry.old row.old.items (register registry.old party.old (sub_type_of sub.now))
+        ≡ record { reply = reply; registry = registry.new; row = row.new.items }) }
+    ensures err { OnErr result ((registry.new ≡ registry.old) × (row.new.items ≡ row.old.items)) }
+    ensures party { party.new ≡ party.old }
+    ensures keeps { Keeps registry.old registry.new party.old row.new.items }
+{
+    row.reserve(1)?;
+    let ty = sub_type(alloc, sub)?;
+    match RegisteredType::new(registry, party, ty) {
+        Ok(hold) => Ok(push_type(row, hold)),
+        Err(BuildRefusal::Full(full)) => Ok(Reply::Refused(Refusal::Full(full))),
+        Err(BuildRefusal::OutOfMemory) => Err(OutOfMemory),
+    }
+}
+
+/// The hold of a type handle.
+fn find_type(row: &[Handle], handle: u32) -> Option<&RegisteredType>
+    ensures { option_copied result ≡ type_at row.now handle }
+{
+    match row.get(handle as usize) {
+        Some(Handle::Type(hold)) => Some(hold),
+        _ => None,
+    }
+}
+
+/// Gives a party one handle more on the type of a handle.
+pub(crate) fn clone_type(
+    registry: &mut TypeRegistry,
+    party: &mut PartyNumber,
+    row: &mut Vec<Handle>,
+    handle: u32,
+) -> Result<Reply, OutOfMemory>
+    requires below { party.old < registry.old.engine.limits.parties }
+    requires handles { AreHandles registry.old party.old row.old.items }
+    ensures ok { IfOk result (λ reply. clone_made registry.old row.old.items party.old handle (type_at row.old.items handle)
+        ≡ record { reply = reply; registry = registry.new; row = row.new.items }) }
+    ensures err { OnErr result ((registry.new ≡ registry.old) × (row.new.items ≡ row.old.items)) }
+    ensures party { party.new ≡ party.old }
+    ensures keeps { Keeps registry.old registry.new party.old row.new.items }
+{
+    row.reserve(1)?;
+    match find_type(row.as_slice(), handle) {
+        Some(hold) => match hold.try_clone(registry, party) {
+            Ok(copy) => Ok(push_type(row, copy)),
+            Err(full) => Ok(Reply::Refused(Refusal::Full(full))),
+        },
+        None => Ok(no_such_handle(party.number(), HandleKind::Type, handle)),
+    }
+}
+
+/// Gives a party a handle on the type that has this index.
+pub(crate) fn root_type(
+    registry: &mut TypeRegistry,
+    party: &mut PartyNumber,
+    row: &mut Vec<Handle>,
+    index: u32,
+) -> Result<Reply, OutOfMemory>
+    requires below { party.old < registry.old.engine.limits.parties }
+    requires handles { AreHandles registry.old party.old row.old.items }
+    ensures ok { IfOk result (λ reply. root_made registry.old row.old.items (rooted registry.old party.old (record { 0 = index }))
+        ≡ record { reply = reply; registry = registry.new; row = row.new.items }) }
+    ensures err { OnErr result ((registry.new ≡ registry.old) × (row.new.items ≡ row.old.items)) }
+    ensures party { party.new ≡ party.old }
+    ensures keeps { Keeps registry.old registry.new party.old row.new.items }
+{
+    row.reserve(1)?;
+    match RegisteredType::try_root(registry, party, VMSharedTypeIndex::new(index)) {
+        Ok(Some(hold)) => Ok(push_type(row, hold)),
+        Ok(None) => Ok(Reply::NoneFound),
+        Err(full) => Ok(Reply::Refused(Refusal::Full(full))),
+    }
+}
+
+/// Takes what stands at a place, and leaves an ended handle there.
+fn take(row: &mut Vec<Handle>, place: usize) -> Handle
+    requires { place < length row.old.items }
+    ensures taken { slice_get row.old.items place ≡ Some result }
+    ensures row { row.new.items ≡ slice_set row.old.items place Handle.Ended }
+{
+    mem::replace(&mut row[place], Handle::Ended)
+}
+
+/// Puts a handle at a place of which the handle was taken.
+fn put(row: &mut Vec<Handle>, place: usize, handle: Handle)
+    requires { place < length row.old.items }
+    ensures { row.new.items ≡ slice_set row.old.items place handle }
+{
+    mem::replace(&mut row[place], handle).forget();
+}
+
+/// Ends a party's handle on a type. Where nobody holds the type's group any more, the handle is a debt now.
+/// It takes no memory.
+pub(crate) fn drop_type(
+    registry: &mut TypeRegistry,
+    party: &mut PartyNumber,
+    row: &mut Vec<Handle>,
+    handle: u32,
+) -> Reply
+    requires below { party.old < registry.old.engine.limits.parties }
+    requires handles { AreHandles registry.old party.old row.old.items }
+    ensures done { type_dropped registry.old row.old.items party.old handle (type_at row.old.items handle)
+        ≡ record { reply = result; registry = registry.new; row = row.new.items } }
+    ensures party { party.new ≡ party.old }
+    ensures keeps { Keeps registry.old registry.new party.old row.new.items }
+{
+    let place = handle as usize;
+    if place >= row.len() {
+        return no_such_handle(party.number(), HandleKind::Type, handle);
+    }
+    match take(row, place) {
+        Handle::Type(hold) => match hold.decref(registry, party) {
+            Some(debt) => {
+                put(row, place, Handle::Owed(debt));
+                Reply::Owed
+            }
+            None => Reply::Dropped,
+        },
+        other => {
+            put(row, place, other);
+            no_such_handle(party.number(), HandleKind::Type, handle)
+        }
+    }
+}
+
+/// Sweeps the group of a party's debt, which ends with it. It takes no memory.
+pub(crate) fn sweep_debt(
+    registry: &mut TypeRegistry,
+    party: &mut PartyNumber,
+    row: &mut Vec<Handle>,
+    handle: u32,
+) -> Reply
+    requires { AreHandles registry.old party.old row.old.items }
+    ensures done { debt_swept registry.old row.old.items party.old handle (debt_at row.old.items handle)
+        ≡ record { reply = result; registry = registry.new; row = row.new.items } }
+    ensures party { party.new ≡ party.old }
+    ensures keeps { Keeps registry.old registry.new party.old row.new.items }
+{
+    let place = handle as usize;
+    if place >= row.len() {
+        return no_such_handle(party.number(), HandleKind::Debt, handle);
+    }
+    match take(row, place) {
+        Handle::Owed(debt) => Reply::Swept(registry.sweep(debt)),
+        other => {
+            put(row, place, other);
+            no_such_handle(party.number(), HandleKind::Debt, handle)
+        }
+    }
+}
