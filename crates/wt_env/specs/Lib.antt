@@ -1,5 +1,8 @@
 pub mod Counts
+pub mod DecodeGroups
+pub mod DecodeValues
 pub mod Equality
+pub mod Json
 pub mod Limits
 pub mod MemoryStream
 pub mod Status

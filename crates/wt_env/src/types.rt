@@ -132,6 +132,17 @@ pub struct WasmExnType {
 #[derive(Clone, Copy, Debug, PartialEq, Eq, Hash)]
 pub struct WasmContType(pub EngineOrModuleTypeIndex);
 
+/// The kind of a shape, or of a type that a reference names (WebAssembly 3.0, "Composite Types";
+/// exceptions and continuations after wasmtime).
+#[derive(Clone, Copy, Debug, PartialEq, Eq, Hash)]
+pub enum Kind {
+    Func,
+    Struct,
+    Array,
+    Exn,
+    Cont,
+}
+
 /// The shape of a type (WebAssembly 3.0, "Composite Types"; exceptions and continuations after
 /// wasmtime).
 #[derive(Clone, Debug, PartialEq, Eq, Hash, Drop)]
@@ -167,6 +178,13 @@ impl WasmRecGroup {
     {
         self == other
     }
+}
+
+/// The recursion groups of a module, in order (WebAssembly 3.0, "Types" and "Recursive Types"). Their
+/// references are Module indices, which count the members of all groups from 0.
+#[derive(Clone, Debug, PartialEq, Eq, Hash, Drop)]
+pub struct ModuleTypes {
+    pub groups: Seq<WasmRecGroup>,
 }
 
 #[cfg(test)]

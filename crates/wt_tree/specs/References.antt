@@ -2,12 +2,10 @@
 -- occurrence, and the data with numbered places instead of them. A reference within the group is
 -- the place of a member, and stays.
 use Rattle.std.specs.Prelude.{ℕ, ◌+◌, List, [], ◌∷◌, ◌++◌, length, Option, Some, None, option_map}
-use Rattle.wt_env.specs.declared.types.ModuleInternedTypeIndex.{ModuleInternedTypeIndex}
 use Rattle.wt_env.specs.declared.types.EngineOrModuleTypeIndex.{EngineOrModuleTypeIndex}
 use Rattle.wt_env.specs.declared.types.EngineOrModuleTypeIndex.TheVariants as index
 use Rattle.wt_env.specs.declared.types.WasmHeapType.{WasmHeapType}
 use Rattle.wt_env.specs.declared.types.WasmHeapType.TheVariants as heap
-use Rattle.wt_env.specs.declared.types.WasmRefType.{WasmRefType}
 use Rattle.wt_env.specs.declared.types.WasmValType.{WasmValType}
 use Rattle.wt_env.specs.declared.types.WasmValType.TheVariants as val
 use Rattle.wt_env.specs.declared.types.WasmStorageType.{WasmStorageType}

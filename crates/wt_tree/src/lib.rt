@@ -3,3 +3,5 @@
 #![tactic(auto)]
 
 pub mod number_function;
+pub mod over;
+pub mod refs;
