@@ -65,7 +65,8 @@ pub free_stop : (more k : ℕ) (xs : List ℕ) → is_used xs k ≡ false → fi
 free_stop zero k xs h = refl
 free_stop (suc more) k xs h = ap (λ b. cond b (first_free more (k + 1) xs) k) h
 
-list_any-bits : (k : ℕ) (indices : List VMSharedTypeIndex) → list_any (λ i. i.0 == k) indices ≡ is_used (map (λ i. i.0) indices) k
+-- the test over indices is the test over their numbers
+pub list_any-bits : (k : ℕ) (indices : List VMSharedTypeIndex) → list_any (λ i. i.0 == k) indices ≡ is_used (map (λ i. i.0) indices) k
 list_any-bits k [] = refl
 list_any-bits k (i ∷ indices) = ap (λ b. (i.0 == k) || b) (list_any-bits k indices)
 

@@ -4,9 +4,9 @@ use Rattle.std.proofs.lemmas.List.{append-nil, map-append}
 use Rattle.std.specs.List.{position_from, list_any, remove}
 use Rattle.wt_registry.specs.declared.counts.Count.{Count}
 use Rattle.wt_registry.specs.declared.entry.Entry.{Entry}
-use Rattle.wt_registry.specs.Counts.{standing_of, standings_of, entries_without}
+use Rattle.wt_registry.specs.Counts.{standing_of, standings_of}
 use Rattle.wt_registry.specs.Entries.{made_of, made_by}
-use Rattle.wt_registry.specs.Registry.{Standing, Among, is_held, held_at, waits_at, change, gained, is_registered, made_without, standings_without}
+use Rattle.wt_registry.specs.Registry.{Standing, Among, is_held, held_at, waits_at, change, gained, is_registered}
 use Rattle.wt_registry.proofs.Standings.{is_held-raised}
 use Rattle.wt_registry.proofs.Found.{found_from, neither, none_found, found_item, found_set, found_remove}
 
@@ -37,22 +37,6 @@ change-past number f (count ∷ passed) rest none =
     let other = both.0 in
     rw other (ap (λ later. standing_of count ∷ later) (change-past number f passed rest both.1))
 
-without-past : (number : ℕ) (passed rest : List Count) → list_any (is_it number) passed ≡ false
-    → standings_without number (standings_of (passed ++ rest)) ≡ standings_of passed ++ standings_without number (standings_of rest)
-without-past number [] rest none = refl
-without-past number (count ∷ passed) rest none =
-    let both = neither (count.number == number) (list_any (is_it number) passed) none in
-    let other = both.0 in
-    rw other (ap (λ later. standing_of count ∷ later) (without-past number passed rest both.1))
-
-entries_without-past : (number : ℕ) (passed rest : List Entry) → list_any (λ entry. entry.number == number) passed ≡ false
-    → entries_without number (passed ++ rest) ≡ passed ++ entries_without number rest
-entries_without-past number [] rest none = refl
-entries_without-past number (entry ∷ passed) rest none =
-    let both = neither (entry.number == number) (list_any (λ e. e.number == number) passed) none in
-    let other = both.0 in
-    rw other (ap (λ later. entry ∷ later) (entries_without-past number passed rest both.1))
-
 -- with what was found between them
 
 held_at-split : (party number : ℕ) (passed : List Count) (x : Count) (rest : List Count) → list_any (is_it number) passed ≡ false → is_it number x ≡ true
@@ -60,20 +44,12 @@ held_at-split : (party number : ℕ) (passed : List Count) (x : Count) (rest : L
 held_at-split party number passed x rest none here = held_at-past party number passed (x ∷ rest) none ∙ rw here refl
 
 waits_at-split : (number : ℕ) (passed : List Count) (x : Count) (rest : List Count) → list_any (is_it number) passed ≡ false → is_it number x ≡ true
-    → waits_at (standings_of (passed ++ x ∷ rest)) number ≡ not (is_held x.holds.items)
+    → waits_at (standings_of (passed ++ x ∷ rest)) number ≡ x.waits
 waits_at-split number passed x rest none here = waits_at-past number passed (x ∷ rest) none ∙ rw here refl
 
 change-split : (number : ℕ) (f : Standing → Standing) (passed : List Count) (x : Count) (rest : List Count) → list_any (is_it number) passed ≡ false → is_it number x ≡ true
     → change number f (standings_of (passed ++ x ∷ rest)) ≡ standings_of passed ++ f (standing_of x) ∷ standings_of rest
 change-split number f passed x rest none here = change-past number f passed (x ∷ rest) none ∙ rw here refl
-
-without-split : (number : ℕ) (passed : List Count) (x : Count) (rest : List Count) → list_any (is_it number) passed ≡ false → is_it number x ≡ true
-    → standings_without number (standings_of (passed ++ x ∷ rest)) ≡ standings_of passed ++ standings_of rest
-without-split number passed x rest none here = without-past number passed (x ∷ rest) none ∙ rw here refl
-
-entries_without-split : (number : ℕ) (passed : List Entry) (x : Entry) (rest : List Entry) → list_any (λ entry. entry.number == number) passed ≡ false → (x.number == number) ≡ true
-    → entries_without number (passed ++ x ∷ rest) ≡ passed ++ rest
-entries_without-split number passed x rest none here = entries_without-past number passed (x ∷ rest) none ∙ rw here refl
 
 -- ---- at a place
 
@@ -92,10 +68,10 @@ held_at-none party number counts h =
     ∙ ap (λ list. held_at (standings_of list) party number) (append-nil counts)
 
 pub waits_at-found : (number place : ℕ) (counts : List Count) (x : Count) → position_from (λ count. count.number == number) 0 counts ≡ Some place
-    → x ≡ get_or counts place x → not (is_held x.holds.items) ≡ waits_at (standings_of counts) number
+    → x ≡ get_or counts place x → x.waits ≡ waits_at (standings_of counts) number
 waits_at-found number place counts x h e =
     let found = found_from (is_it number) 0 place counts h in
-    ap (λ count. not (is_held count.holds.items)) (found_item (is_it number) place counts h x e)
+    ap (λ count. count.waits) (found_item (is_it number) place counts h x e)
     ∙ (sym (waits_at-split number found.passed found.item found.rest found.none_before found.passes)
     ∙ ap (λ list. waits_at (standings_of list) number) (sym found.splits))
 
@@ -124,37 +100,6 @@ change-none number f counts h =
     ∙ (sym (change-past number f counts [] (none_found (is_it number) 0 counts h))
     ∙ ap (λ list. change number f (standings_of list)) (append-nil counts))
 
-pub without-found : (number place : ℕ) (counts : List Count) → position_from (λ count. count.number == number) 0 counts ≡ Some place
-    → standings_of (remove counts place) ≡ standings_without number (standings_of counts)
-without-found number place counts h =
-    let found = found_from (is_it number) 0 place counts h in
-    ap standings_of (found_remove (is_it number) place counts h)
-    ∙ (map-append standing_of found.passed found.rest
-    ∙ (sym (without-split number found.passed found.item found.rest found.none_before found.passes)
-    ∙ ap (λ list. standings_without number (standings_of list)) (sym found.splits)))
-
-pub without-none : (number : ℕ) (counts : List Count) → position_from (λ count. count.number == number) 0 counts ≡ None
-    → standings_of counts ≡ standings_without number (standings_of counts)
-without-none number counts h =
-    sym (append-nil (standings_of counts))
-    ∙ (sym (without-past number counts [] (none_found (is_it number) 0 counts h))
-    ∙ ap (λ list. standings_without number (standings_of list)) (append-nil counts))
-
-pub entries_without-found : (number place : ℕ) (entries : List Entry) → position_from (λ entry. entry.number == number) 0 entries ≡ Some place
-    → remove entries place ≡ entries_without number entries
-entries_without-found number place entries h =
-    let found = found_from (λ (entry : Entry). entry.number == number) 0 place entries h in
-    found_remove (λ (entry : Entry). entry.number == number) place entries h
-    ∙ (sym (entries_without-split number found.passed found.item found.rest found.none_before found.passes)
-    ∙ ap (entries_without number) (sym found.splits))
-
-pub entries_without-none : (number : ℕ) (entries : List Entry) → position_from (λ entry. entry.number == number) 0 entries ≡ None
-    → entries ≡ entries_without number entries
-entries_without-none number entries h =
-    sym (append-nil entries)
-    ∙ (sym (entries_without-past number entries [] (none_found (λ (entry : Entry). entry.number == number) 0 entries h))
-    ∙ ap (entries_without number) (append-nil entries))
-
 -- ---- who is asked for
 
 among-split : (passed : List Count) (x : Count) (rest : List Count) → Among x (passed ++ x ∷ rest)
@@ -169,15 +114,6 @@ among-found number place counts x h e =
     subst (λ (count : Count). Among count counts) (sym (found_item (is_it number) place counts h x e)) there
 
 -- ---- entries
-
-pub made_by-without : (number : ℕ) (entries : List Entry) → made_by (entries_without number entries) ≡ made_without number (made_by entries)
-made_by-without number [] = refl
-made_by-without number (entry ∷ entries) = by (entry.number == number) (made_by-without number entries)
-  where
-    by : (b : Bool) → made_by (entries_without number entries) ≡ made_without number (made_by entries)
-        → made_by (cond b entries (entry ∷ entries_without number entries)) ≡ cond b (made_by entries) (made_of entry ∷ made_without number (made_by entries))
-    by true h = refl
-    by false h = ap (λ rest. made_of entry ∷ rest) h
 
 pub position-made : (number from : ℕ) (entries : List Entry) → is_some (position_from (λ entry. entry.number == number) from entries) ≡ is_registered (made_by entries) number
 position-made number from [] = refl

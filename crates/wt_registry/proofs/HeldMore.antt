@@ -20,7 +20,7 @@ among_located (m ∷ made) i at h = by (place_in i m.indices) h (among_located m
     by None there later = inr (later there)
 
 standing_located : (registry : Registry) (i : VMSharedTypeIndex) (at : ℕ × ℕ) → IsSound registry → locate registry.made i ≡ Some at → Among at.0 (map (λ s. s.number) registry.standings)
-standing_located registry i at sound is = subst (Among at.0) (sym sound.are_standing.numbers) (among_located registry.made i at is)
+standing_located registry i at sound is = subst (Among at.0) (sym sound.stand_in.numbers) (among_located registry.made i at is)
 
 pub standing_numbered : (registry : Registry) (i : VMSharedTypeIndex) (number : ℕ) → IsSound registry → option_map (λ (at : ℕ × ℕ). at.0) (locate registry.made i) ≡ Some number → Among number (map (λ s. s.number) registry.standings)
 standing_numbered registry i number sound is = by (locate registry.made i) refl is
@@ -58,5 +58,5 @@ held-more registry new held sound within engine stands located h =
   where
     more : 1 ≤ held_at (change held.number (gained held.party) registry.standings) held.party held.number
     more =
-        let one = held_at-gained registry.standings held.party held.number stands (λ s there. omega (arith, sound.are_standing.parties s there, within)) in
+        let one = held_at-gained registry.standings held.party held.number stands (λ s there. omega (arith, sound.stand_in.parties s there, within)) in
         omega (arith, one)

@@ -1,7 +1,7 @@
 -- Which group has an index, when groups are added or removed.
 use Rattle.std.proofs.Common.{◌≡◌, ◌≢◌, ℕ, ◌==◌, Bool, true, false, cond, List, [], ◌∷◌, ◌++◌, slice_get, Option, Some, None, option_map, refl, ap, arith}
 use Rattle.wt_env.specs.declared.types.VMSharedTypeIndex.{VMSharedTypeIndex}
-use Rattle.wt_registry.specs.Registry.{Made, Among, place_in, located_here, locate, number_of, made_without}
+use Rattle.wt_registry.specs.Registry.{Made, Among, place_in, located_here, locate, number_of}
 use Rattle.wt_registry.specs.Sound.{IsLocated}
 
 abbrev number_from : Option (ℕ × ℕ) → Option ℕ
@@ -21,20 +21,3 @@ located-pushed (m ∷ made) more i n is = by (place_in i m.indices) is (located-
         → number_from (located_here m.number place (locate (made ++ more) i)) ≡ Some n
     by (Some place) here later = here
     by None there later = later there
-
--- what is located at another group stays located where a group is removed
-pub located-without : (number : ℕ) (made : List Made) (i : VMSharedTypeIndex) (n : ℕ) → n ≢ number → number_of made i ≡ Some n → number_of (made_without number made) i ≡ Some n
-located-without number [] i n other is = is
-located-without number (m ∷ made) i n other is = by (m.number == number) refl (place_in i m.indices) refl is (located-without number made i n other)
-  where
-    not_here : (k : ℕ) → Some k ≡ Some n → (k == number) ≡ true → ⊥
-    not_here k is here = let same : k ≡ n = cc in other (grind (arith, same, here))
-
-    by : (b : Bool) → (m.number == number) ≡ b → (place : Option ℕ) → place_in i m.indices ≡ place
-        → number_from (located_here m.number place (locate made i)) ≡ Some n
-        → (number_of made i ≡ Some n → number_of (made_without number made) i ≡ Some n)
-        → number_of (cond b made (m ∷ made_without number made)) i ≡ Some n
-    by true e (Some place) p here later = absurd (not_here m.number here e)
-    by true e None p there later = there
-    by false e (Some place) p here later = rw p here
-    by false e None p there later = rw p (later there)

@@ -1,6 +1,13 @@
 pub mod Counts
 pub mod Entries
+pub mod Holdings
+pub mod Kept
+pub mod Keys
 pub mod Live
+pub mod Plan
+pub mod Planned
 pub mod Reach
 pub mod Registry
+pub mod Removal
 pub mod Sound
+pub mod Validity

@@ -82,15 +82,6 @@ number_of made i = option_map (λ at. at.0) (locate made i)
 abbrev pub closed_tree : List Made → VMSharedTypeIndex → Option ClosedTree
 closed_tree made i = option_map (λ at. record { tree = trees made at.0; place = at.1 }) (locate made i)
 
-abbrev pub member_here : Option ℕ → List WasmSubType → Option WasmSubType → Option WasmSubType
-member_here (Some place) members later = slice_get members place
-member_here None members later = later
-
--- the sub type that has this index
-abbrev pub sub_type_at : List Made → VMSharedTypeIndex → Option WasmSubType
-sub_type_at [] i = None
-sub_type_at (made ∷ rest) i = member_here (place_in i made.indices) made.description.members (sub_type_at rest i)
-
 -- the indices of all registered types, as numbers
 abbrev pub used : List Made → List ℕ
 used made = flat_map (λ m. map (λ i. i.0) m.indices) made
@@ -153,39 +144,29 @@ new_standing registry = record {
   waits = false;
 }
 
+-- what keeps this group is changed
+abbrev pub change : ℕ → (Standing → Standing) → List Standing → List Standing
+change number f [] = []
+change number f (standing ∷ rest) = if standing.number == number then f standing ∷ rest else standing ∷ change number f rest
+
+abbrev pub no_longer : Standing → Standing
+no_longer standing = record standing { waits = false }
+
+-- what a new group refers to doesn't wait
+abbrev pub called : List (ℕ × ℕ) → List Standing → List Standing
+called [] standings = standings
+called (reference ∷ rest) standings = called rest (change reference.0 no_longer standings)
+
 abbrev pub with_group : Registry → Description → Registry
 with_group registry description = record registry {
   made = registry.made ++ new_group registry description ∷ [];
   given = given_with registry.given description;
-  standings = registry.standings ++ new_standing registry ∷ [];
+  standings = called description.outer registry.standings ++ new_standing registry ∷ [];
 }
-
--- what a new group wants of each limit, in the order in which the limits are tested
-abbrev pub wanted_for : Registry → Description → List Full
-wanted_for registry description =
-    record { limit = Groups; bound = registry.engine.limits.groups; wanted = length registry.made + 1 }
-    ∷ record { limit = Types; bound = registry.engine.limits.types; wanted = length (used registry.made) + length description.members }
-    ∷ record { limit = Ever; bound = registry.engine.limits.ever; wanted = registry.given.numbers + 1 }
-    ∷ []
 
 -- the first that is above its bound
 abbrev pub first_full : List Full → Option Full
 first_full wanted = find (λ full. nat_lt full.bound full.wanted) wanted
-
-abbrev pub added_unless : Registry → Description → Option Full → Result (Made × Registry) Full
-added_unless registry description (Some full) = Err full
-added_unless registry description None = Ok (new_group registry description, with_group registry description)
-
-abbrev pub added : Registry → Description → Result (Made × Registry) Full
-added registry description = added_unless registry description (first_full (wanted_for registry description))
-
-abbrev pub found_or_added : Registry → Description → Option Made → Result (Made × Registry) Full
-found_or_added registry description (Some made) = Ok (made, registry)
-found_or_added registry description None = added registry description
-
--- The group of this description, and the registry that has it: a group that has its tree is that group.
-abbrev pub enter : Registry → Description → Result (Made × Registry) Full
-enter registry description = found_or_added registry description (find_tree registry.made (close (trees registry.made) description))
 
 -- ---- holds
 
@@ -207,23 +188,11 @@ abbrev pub waiting : List Standing → List ℕ
 waiting [] = []
 waiting (standing ∷ rest) = if standing.waits then standing.number ∷ waiting rest else waiting rest
 
--- what keeps this group is changed
-abbrev pub change : ℕ → (Standing → Standing) → List Standing → List Standing
-change number f [] = []
-change number f (standing ∷ rest) = if standing.number == number then f standing ∷ rest else standing ∷ change number f rest
-
 -- one more hold of a party; what is held doesn't wait
 abbrev pub gained : ℕ → Standing → Standing
 gained party standing = record standing {
   holds = slice_set standing.holds party (slice_index standing.holds party + 1);
   waits = false;
-}
-
--- one hold less; what nothing holds any more waits
-abbrev pub lost : ℕ → Standing → Standing
-lost party standing = record standing {
-  holds = slice_set standing.holds party (slice_index standing.holds party - 1);
-  waits = not (is_held (slice_set standing.holds party (slice_index standing.holds party - 1)));
 }
 
 abbrev pub full_of_holds : Registry → ℕ → ℕ → Full
@@ -236,37 +205,8 @@ hold registry party number =
     then Err (full_of_holds registry party number)
     else Ok (record registry { standings = change number (gained party) registry.standings })
 
--- One hold of a party ends: the debt, where the group waits now, and the registry after it.
-abbrev pub drop : Registry → ℕ → ℕ → Option ℕ × Registry
-drop registry party number =
-    let standings = change number (lost party) registry.standings in
-    (if waits_at standings number then Some number else None, record registry { standings = standings })
-
 abbrev pub is_registered : List Made → ℕ → Bool
 is_registered made number = list_any (λ m. m.number == number) made
-
--- the groups without this one
-abbrev pub made_without : ℕ → List Made → List Made
-made_without number [] = []
-made_without number (made ∷ rest) = if made.number == number then rest else made ∷ made_without number rest
-
-abbrev pub standings_without : ℕ → List Standing → List Standing
-standings_without number [] = []
-standings_without number (standing ∷ rest) = if standing.number == number then rest else standing ∷ standings_without number rest
-
-abbrev pub without_group : Registry → ℕ → Registry
-without_group registry number = record registry {
-  made = made_without number registry.made;
-  standings = standings_without number registry.standings;
-}
-
--- A sweep of a debt: a group that waits is removed, and a group that doesn't is kept; that registration may
--- also be gone.
-abbrev pub sweep : Registry → ℕ → Swept × Registry
-sweep registry number =
-    if waits_at registry.standings number
-    then (Removed (length registry.made - length (made_without number registry.made)), without_group registry number)
-    else (if is_registered registry.made number then Kept else Gone, registry)
 
 -- a hold of one registered type, by a party
 pub record Hold : Type 0 where
@@ -285,29 +225,6 @@ pub record IsHeld (registry : Registry) (hold : Hold) : Type 0 where
   pub party : hold.party < registry.engine.limits.parties
   pub held : 1 ≤ held_at registry.standings hold.party hold.number
   pub located : number_of registry.made hold.index ≡ Some hold.number
-
-abbrev pub hold_of : ℕ → ℕ → Made → Hold
-hold_of engine party made = record { engine = engine; index = unwrap_or (slice_get made.indices 0) (record { 0 = 0 }); number = made.number; party = party }
-
-abbrev pub held_as : Made → Result Registry Full → Result (Made × Registry) Full
-held_as made (Ok registry) = Ok (made, registry)
-held_as made (Err full) = Err full
-
-abbrev pub held_by : ℕ → Result (Made × Registry) Full → Result (Made × Registry) Full
-held_by party (Ok entered) = held_as entered.0 (hold entered.1 party entered.0.number)
-held_by party (Err full) = Err full
-
--- the group of a description, which a party has one more hold of
-abbrev pub registered : Registry → ℕ → Description → Result (Made × Registry) Full
-registered registry party description = held_by party (enter registry description)
-
-abbrev pub hold_made : ℕ → ℕ → Result (Made × Registry) Full → Result (Hold × Registry) Full
-hold_made engine party (Ok entered) = Ok (hold_of engine party entered.0, entered.1)
-hold_made engine party (Err full) = Err full
-
--- A registration of one type by a party: its hold and the registry after it, or the limit that it would pass.
-abbrev pub register : Registry → ℕ → WasmSubType → Result (Hold × Registry) Full
-register registry party ty = hold_made registry.engine.number party (registered registry party (describe registry.made (ty ∷ [])))
 
 abbrev pub rooted_after : ℕ → ℕ → VMSharedTypeIndex → ℕ → Result Registry Full → Result (Option Hold × Registry) Full
 rooted_after engine party index number (Ok registry) = Ok (Some (record { engine = engine; index = index; number = number; party = party }), registry)

@@ -1,9 +1,10 @@
 -- What is true of every registry, and what the steps on holds change.
-use Rattle.std.specs.Prelude.{◌≡◌, ◌≢◌, ◌↔◌, ℕ, ◌+◌, ◌<◌, ◌≤◌, ◌⊎◌, List, [], ◌∷◌, ◌++◌, length, map, slice_get, slice_index, not, Some}
+use Rattle.std.specs.Prelude.{◌≡◌, ◌≢◌, ◌↔◌, ℕ, ◌+◌, ◌<◌, ◌≤◌, ◌⊎◌, List, [], ◌∷◌, ◌++◌, length, map, slice_get, slice_index, true, false, Some}
 use Rattle.wt_env.specs.Limits.{EngineParts}
 use Rattle.wt_env.specs.declared.types.VMSharedTypeIndex.{VMSharedTypeIndex}
 use Rattle.wt_registry.specs.Registry.{Made, Standing, Registry, Among, trees, locate, number_of, is_held, held_at, waiting}
 use Rattle.wt_registry.specs.Reach.{Reach}
+use Rattle.wt_registry.specs.Removal.{is_root, is_reached}
 
 -- The numbers rise from above low, and none is above top.
 abbrev pub IsRising : ℕ → List Made → ℕ → Type 0
@@ -34,12 +35,15 @@ pub record AreCounted (engine : EngineParts) (standings : List Standing) : Type 
   pub parties : (s : Standing) → Among s standings → length s.holds ≡ engine.limits.parties
   pub bounded : (s : Standing) (party : ℕ) → Among s standings → slice_index s.holds party ≤ engine.limits.holds
 
--- what keeps a group is told for each, and a group waits exactly where nobody holds it
-pub record AreStanding (engine : EngineParts) (made : List Made) (standings : List Standing) : Type 0 where
+-- What keeps a group is told for each, what waits is held by nobody and reached by nothing else, and each
+-- group is reached.
+pub record StandIn (engine : EngineParts) (made : List Made) (standings : List Standing) : Type 0 where
   pub numbers : map (λ s. s.number) standings ≡ map (λ m. m.number) made
   pub parties : (s : Standing) → Among s standings → length s.holds ≡ engine.limits.parties
   pub bounded : (s : Standing) (party : ℕ) → Among s standings → slice_index s.holds party ≤ engine.limits.holds
-  pub waits : (s : Standing) → Among s standings → s.waits ≡ not (is_held s.holds)
+  pub unheld : (s : Standing) → Among s standings → s.waits ≡ true → is_held s.holds ≡ false
+  pub alone : (s : Standing) (root : ℕ) → Among s standings → s.waits ≡ true → root ≢ s.number → is_root standings root ≡ true → Reach made root s.number → ⊥
+  pub reached : (m : Made) → Among m made → is_reached made (is_root standings) m.number ≡ true
 
 -- a number that a party holds, or that waits for a sweep
 abbrev pub IsRoot : Registry → ℕ → Type 0
@@ -55,7 +59,7 @@ pub record IsSound (registry : Registry) : Type 0 where
   pub one_index : OneIndexPerTree registry.made
   pub names_older : NamesOlder registry.made
   pub is_located : IsLocated registry.made
-  pub are_standing : AreStanding registry.engine registry.made registry.standings
+  pub stand_in : StandIn registry.engine registry.made registry.standings
   pub reached : AreReached registry
 
 -- ---- what a step changes

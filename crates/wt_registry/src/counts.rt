@@ -3,8 +3,9 @@
 ghost use Rattle.std.specs.Prelude.{◌≡◌, ℕ, ◌+◌, ◌<◌, ◌≤◌, ◌^◌, ◌==◌, length, IfOk, slice_index, slice_set, replicate};
 ghost use Rattle.std.specs.List.{position_from};
 ghost use Rattle.wt_registry.specs.Registry as registry;
-ghost use Rattle.wt_registry.specs.Registry.{Among, held_at, waits_at, change, gained, lost, standings_without, is_registered};
-ghost use Rattle.wt_registry.specs.Counts.{standing_of, standings_of, entries_without};
+ghost use Rattle.wt_registry.specs.Registry.{Among, held_at, waits_at, change, gained, is_registered};
+ghost use Rattle.wt_registry.specs.Removal.{fewer};
+ghost use Rattle.wt_registry.specs.Counts.{standing_of, standings_of};
 ghost use Rattle.wt_registry.specs.Entries.{made_by};
 
 use crate::entry::Entry;
@@ -18,10 +19,12 @@ pub struct Count {
     pub(crate) number: u64,
     /// How many holds each party has, by the party's number.
     pub(crate) holds: Vec<u64>,
+    /// Whether the group waits for a sweep.
+    pub(crate) waits: bool,
 }
 
 /// Whether any party has a hold.
-fn is_held(holds: &[u64]) -> bool
+pub(crate) fn is_held(holds: &[u64]) -> bool
     ensures { result ≡ registry.is_held holds.now }
 {
     holds.iter().any(|count| 0 < *count)
@@ -53,12 +56,12 @@ pub(crate) fn held_by(counts: &[Count], party: u32, number: u64) -> u64
     }
 }
 
-/// Whether a group waits for a sweep: it is there, and nobody holds it.
+/// Whether a group waits for a sweep.
 pub(crate) fn waits(counts: &[Count], number: u64) -> bool
     ensures { result ≡ waits_at (standings_of counts.now) number }
 {
     match place_of(counts, number) {
-        Some(place) => !is_held(&counts[place].holds),
+        Some(place) => counts[place].waits,
         None => false,
     }
 }
@@ -70,15 +73,17 @@ fn raise(count: &mut Count, party: u32)
     ensures { standing_of count.new ≡ gained party (standing_of count.old) }
 {
     count.holds[party as usize] += 1;
+    count.waits = false;
 }
 
 /// One hold of a party less.
 fn lower(count: &mut Count, party: u32)
     requires within { party < length count.old.holds.items }
     requires held { 1 ≤ slice_index count.old.holds.items party }
-    ensures { standing_of count.new ≡ lost party (standing_of count.old) }
+    ensures { standing_of count.new ≡ fewer party (standing_of count.old) }
 {
     count.holds[party as usize] -= 1;
+    count.waits = false;
 }
 
 /// One more hold of a party on a group.
@@ -92,40 +97,31 @@ pub(crate) fn gain(counts: &mut Vec<Count>, party: u32, number: u64)
     }
 }
 
+/// A group waits now, or doesn't any longer.
+pub(crate) fn set_waits(counts: &mut Vec<Count>, number: u64, waits: bool)
+    ensures { standings_of counts.new.items ≡ change number (λ standing. record standing { waits = waits }) (standings_of counts.old.items) }
+{
+    if let Some(place) = place_of(counts, number) {
+        counts[place].waits = waits;
+    }
+}
+
 /// One hold of a party on a group less.
 pub(crate) fn lose(counts: &mut Vec<Count>, party: u32, number: u64)
     requires parties { (count : Count) → Among count counts.old.items → party < length count.holds.items }
     requires held { 1 ≤ held_at (standings_of counts.old.items) party number }
-    ensures { standings_of counts.new.items ≡ change number (lost party) (standings_of counts.old.items) }
+    ensures { standings_of counts.new.items ≡ change number (fewer party) (standings_of counts.old.items) }
 {
     if let Some(place) = place_of(counts, number) {
         lower(&mut counts[place], party);
     }
 }
 
-/// Takes the count of a group away.
-pub(crate) fn remove_count(counts: &mut Vec<Count>, number: u64)
-    ensures { standings_of counts.new.items ≡ standings_without number (standings_of counts.old.items) }
-{
-    if let Some(place) = place_of(counts, number) {
-        counts.remove(place);
-    }
-}
-
 /// Where the entry of a group stands.
-fn entry_place(entries: &[Entry], number: u64) -> Option<usize>
+pub(crate) fn entry_place(entries: &[Entry], number: u64) -> Option<usize>
     ensures { result ≡ position_from (λ entry. entry.number == number) 0 entries.now }
 {
     entries.iter().position(|entry| entry.number == number)
-}
-
-/// Takes the entry of a group away.
-pub(crate) fn remove_entry(entries: &mut Vec<Entry>, number: u64)
-    ensures { entries.new.items ≡ entries_without number entries.old.items }
-{
-    if let Some(place) = entry_place(entries, number) {
-        entries.remove(place);
-    }
 }
 
 /// Whether a group with this number is registered.
@@ -135,13 +131,10 @@ pub(crate) fn has_number(entries: &[Entry], number: u64) -> bool
     entry_place(entries, number).is_some()
 }
 
-/// The holds of a group of which one party has the first.
-pub(crate) fn first_hold(alloc: Global, parties: u64, party: u32) -> Result<Vec<u64>, OutOfMemory>
-    requires within { party < parties }
-    requires small { parties ≤ 1024 }
-    ensures { IfOk result (λ holds. holds.items ≡ slice_set (replicate parties 0) party 1) }
+/// The holds of a group that nobody holds.
+pub(crate) fn no_holds(alloc: Global, parties: u64) -> Result<Vec<u64>, OutOfMemory>
+    requires { parties ≤ 1024 }
+    ensures { IfOk result (λ holds. holds.items ≡ replicate parties 0) }
 {
-    let mut holds: Vec<u64> = vec![in alloc; 0; parties as usize]?;
-    holds[party as usize] = 1;
-    Ok(holds)
+    Ok(vec![in alloc; 0; parties as usize]?)
 }

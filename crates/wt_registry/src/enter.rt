@@ -1,63 +1,187 @@
-//! Registrations: the group that has a type's key, or a new one within the limits, and one more hold of it.
+//! Registrations that were planned: their limits, the room for them, and then the change.
 
-ghost use Rattle.std.specs.Prelude.{◌≡◌, ◌+◌, ◌^◌, ◌<◌, ◌≤◌, List, [], ◌∷◌, ◌++◌, length, Some, None, Ok, Err, IfOk, OnOk, OnErr, slice_get};
-ghost use Rattle.std.specs.List.{find};
-ghost use Rattle.std.specs.Option.{option_copied};
-ghost use Rattle.wt_env.specs.Equality.{rec_group_eq};
+ghost use Rattle.std.specs.Prelude.{◌≡◌, ℕ, ◌+◌, ◌^◌, ◌<◌, ◌≤◌, ◌++◌, length, map, false, Ok, Err, IfOk, OnOk, OnErr, List, vec_len, vec_capacity};
+ghost use Rattle.wt_env.specs.Limits.{EngineParts};
+ghost use Rattle.wt_registry.specs.declared.counts.Count.{Count as CountOf};
+ghost use Rattle.wt_registry.specs.Registry.{Among, held_at, called, change, gained, hold};
 ghost use Rattle.wt_registry.specs.declared.entry.Entry.{Entry as EntryOf};
 ghost use Rattle.wt_registry.specs.declared.entry.Given.{Given as GivenOf};
-ghost use Rattle.wt_registry.specs.Registry.{describe, hold, registered, held_at, change, gained, closed_tree, tree_of, first_full, Made};
-ghost use Rattle.wt_registry.specs.Sound.{AreCounted, AreStanding};
+ghost use Rattle.wt_registry.specs.Sound.{AreCounted};
 ghost use Rattle.wt_registry.specs.Counts.{standings_of};
-ghost use Rattle.wt_registry.specs.Entries.{made_by, registry_of, registry_at, AreKept, IsOneFunction, entered_as, wanted_at};
+ghost use Rattle.wt_registry.specs.Entries.{registry_of, registry_at};
+ghost use Rattle.wt_registry.specs.Keys.{AreKeys};
+ghost use Rattle.wt_registry.specs.Kept.{AreKept, AreShown};
+ghost use Rattle.wt_registry.specs.Holdings.{Gains};
+ghost use Rattle.wt_registry.specs.Plan.{times, hold_each as held_each, admit};
+ghost use Rattle.wt_registry.specs.Planned.{planned_standing, called_by, plan_of, Occurs};
 
-use crate::counts::{Count, first_hold, gain, held_by};
-use crate::entry::Given;
+use crate::counts::{Count, gain, held_by, no_holds, set_waits};
+use crate::entry::Entry;
 use crate::groups::Groups;
+use crate::plan::Plan;
 use crate::refusal::{BuildRefusal, Full};
-use crate::search::{add_group, find_group};
+use crate::wanted::passed;
 use std::alloc::Global;
-use wt_env::limits::{Engine, EngineLimits, Limit};
-use wt_env::seq::Seq;
-use wt_env::types::{VMSharedTypeIndex, WasmRecGroup};
+use wt_env::limits::{Engine, Limit};
+use wt_env::memory::OutOfMemory;
+use wt_env::types::VMSharedTypeIndex;
 
-fn find_above(wanted: &[Full]) -> Option<&Full>
-    ensures { option_copied result ≡ first_full wanted.now }
+/// The counts of groups that are new.
+fn new_counts(alloc: Global, parties: u64, added: &[Entry]) -> Result<Vec<Count>, OutOfMemory>
+    requires { parties ≤ 1024 }
+    ensures { IfOk result (λ counts. (engine : EngineParts) → engine.limits.parties ≡ parties
+        → standings_of counts.items ≡ map (planned_standing engine) added.now) }
 {
-    wanted.iter().find(|full| full.bound < full.wanted)
+    let mut counts = Vec::new(alloc);
+    for entry in added {
+        counts.push(Count {
+            number: entry.number,
+            holds: no_holds(alloc, parties)?,
+            waits: false,
+        })?;
+    }
+    Ok(counts)
 }
 
-fn first_above(wanted: &[Full]) -> Option<Full>
-    ensures { result ≡ first_full wanted.now }
+/// What is referred to doesn't wait.
+fn call(counts: &mut Vec<Count>, outer: &[(u64, u32)])
+    ensures { standings_of counts.new.items ≡ called outer.now (standings_of counts.old.items) }
 {
-    find_above(wanted).copied()
+    for reference in outer {
+        set_waits(counts, reference.0, false);
+    }
 }
 
-/// The first limit that one more group of one type would pass, where so many groups are registered, and
-/// so many registration numbers were given.
-fn passed_limit(limits: EngineLimits, groups: u64, numbers: u64) -> Option<Full>
-    requires groups { groups < 2 ^ 32 }
-    requires numbers { numbers < 2 ^ 32 }
-    ensures { result ≡ first_full (wanted_at limits groups numbers) }
+/// What new groups refer to doesn't wait.
+fn call_each(counts: &mut Vec<Count>, added: &[Entry])
+    ensures { standings_of counts.new.items ≡ called_by added.now (standings_of counts.old.items) }
 {
-    let wanted = [
-        Full {
-            limit: Limit::Groups,
-            bound: limits.groups,
-            wanted: groups + 1,
-        },
-        Full {
-            limit: Limit::Types,
-            bound: limits.types,
-            wanted: groups + 1,
-        },
-        Full {
-            limit: Limit::Ever,
-            bound: limits.ever,
-            wanted: numbers + 1,
-        },
-    ];
-    first_above(&wanted)
+    for entry in added {
+        call(counts, entry.outer.as_slice());
+    }
+}
+
+/// One more hold of a party for each time that a group occurs.
+fn hold_each(counts: &mut Vec<Count>, party: u32, numbers: &[u64])
+    requires parties { (count : CountOf) → Among count counts.old.items → party < length count.holds.items }
+    requires room { (number : ℕ) → held_at (standings_of counts.old.items) party number + times number numbers.now < 2 ^ 64 }
+    ensures { standings_of counts.new.items ≡ held_each party numbers.now (standings_of counts.old.items) }
+{
+    for number in numbers {
+        gain(counts, party, *number);
+    }
+}
+
+/// Room for so many groups more.
+fn reserve_groups(groups: &mut Groups, more: usize) -> Result<(), OutOfMemory>
+    ensures entries { groups.new.entries.items ≡ groups.old.entries.items }
+    ensures counts { groups.new.counts.items ≡ groups.old.counts.items }
+    ensures marks { groups.new.marks.items ≡ groups.old.marks.items }
+    ensures given { groups.new.given ≡ groups.old.given }
+    ensures entries_room { OnOk result (vec_len groups.new.entries + more ≤ vec_capacity groups.new.entries) }
+    ensures counts_room { OnOk result (vec_len groups.new.counts + more ≤ vec_capacity groups.new.counts) }
+    ensures marks_room { OnOk result (vec_len groups.new.marks + more ≤ vec_capacity groups.new.marks) }
+{
+    groups.entries.reserve(more)?;
+    groups.counts.reserve(more)?;
+    groups.marks.reserve(more)?;
+    Ok(())
+}
+
+/// Moves the items of one list behind those of another that has room for them.
+fn move_all<T: Drop>(items: &mut Vec<T>, mut more: Vec<T>)
+    requires { vec_len items.old + vec_len more ≤ vec_capacity items.old }
+    ensures { items.new.items ≡ items.old.items ++ more.items }
+{
+    match items.append(&mut more) {
+        Ok(()) => {}
+        Err(_) => unreachable!(),
+    }
+}
+
+/// So many marks more, for which there is room.
+fn add_marks(marks: &mut Vec<bool>, more: usize)
+    requires { vec_len marks.old + more ≤ vec_capacity marks.old }
+    ensures { length marks.new.items ≡ length marks.old.items + more }
+{
+    for _ in 0..more {
+        marks.push_reserved(false);
+    }
+}
+
+/// The change: the new groups stand, and the party has its holds.
+fn commit(
+    groups: &mut Groups,
+    party: u32,
+    plan: Plan,
+    rows: Vec<Count>,
+) -> (Vec<u64>, Vec<VMSharedTypeIndex>)
+    requires entries_room { vec_len groups.old.entries + vec_len plan.added ≤ vec_capacity groups.old.entries }
+    requires counts_room { vec_len groups.old.counts + vec_len rows ≤ vec_capacity groups.old.counts }
+    requires marks_room { vec_len groups.old.marks + vec_len plan.added ≤ vec_capacity groups.old.marks }
+    requires calm { (count : CountOf) → Among count rows.items → count.waits ≡ false }
+    requires parties { (count : CountOf) → Among count (groups.old.counts.items ++ rows.items) → party < length count.holds.items }
+    requires room { (number : ℕ) → held_at (called_by plan.added.items (standings_of groups.old.counts.items) ++ standings_of rows.items) party number + times number plan.numbers.items < 2 ^ 64 }
+    ensures entries { groups.new.entries.items ≡ groups.old.entries.items ++ plan.added.items }
+    ensures counts { standings_of groups.new.counts.items ≡ held_each party plan.numbers.items (called_by plan.added.items (standings_of groups.old.counts.items) ++ standings_of rows.items) }
+    ensures marks { length groups.new.marks.items ≡ length groups.old.marks.items + length plan.added.items }
+    ensures given { groups.new.given ≡ plan.given }
+    ensures numbers { result.0.items ≡ plan.numbers.items }
+    ensures map { result.1.items ≡ plan.map.items }
+{
+    let Plan {
+        added,
+        given,
+        numbers,
+        map,
+    } = plan;
+    move_all(&mut groups.counts, rows);
+    call_each(&mut groups.counts, added.as_slice());
+    add_marks(&mut groups.marks, added.len());
+    move_all(&mut groups.entries, added);
+    groups.given = given;
+    hold_each(&mut groups.counts, party, numbers.as_slice());
+    (numbers, map)
+}
+
+/// Carries a plan out for a party, or tells the first limit that it would pass. Answers the group of each
+/// occurrence and the index of each type.
+pub(crate) fn carry_out(
+    alloc: Global,
+    engine: &Engine,
+    groups: &mut Groups,
+    party: u32,
+    plan: Plan,
+) -> Result<(Vec<u64>, Vec<VMSharedTypeIndex>), BuildRefusal>
+    requires kept { AreKept engine.now groups.old }
+    requires party { party < engine.now.limits.parties }
+    requires keys { AreKeys (groups.old.entries.items ++ plan.added.items) plan.given.numbers }
+    requires shown { AreShown plan.added.items }
+    requires occurs { Occurs (groups.old.entries.items ++ plan.added.items) plan.added.items plan.numbers.items }
+    ensures ok { OnOk result (admit party (plan_of engine.now groups.old.entries.items (standings_of groups.old.counts.items) plan) ≡ Ok (registry_at engine.now groups.new)) }
+    ensures numbers { IfOk result (λ held. held.0.items ≡ plan.numbers.items) }
+    ensures map { IfOk result (λ held. held.1.items ≡ plan.map.items) }
+    ensures gains { IfOk result (λ held. Gains (registry_at engine.now groups.old) (registry_at engine.now groups.new) party held.0.items) }
+    ensures full { (full : _) → result ≡ Err (BuildRefusal.Full full)
+        → admit party (plan_of engine.now groups.old.entries.items (standings_of groups.old.counts.items) plan) ≡ Err full }
+    ensures valid { (place : _) (rule : _) → result ≡ Err (BuildRefusal.InvalidModule place rule) → ⊥ }
+    ensures has_gc { result ≡ Err BuildRefusal.NoGc → ⊥ }
+    ensures err { OnErr result (registry_at engine.now groups.new ≡ registry_at engine.now groups.old) }
+    ensures kept { AreKept engine.now groups.new }
+{
+    let found = passed(
+        engine,
+        groups.entries.as_slice(),
+        groups.counts.as_slice(),
+        party,
+        &plan,
+    )?;
+    if let Some(full) = found {
+        return Err(BuildRefusal::Full(full));
+    }
+    let rows = new_counts(alloc, engine.limits().parties, plan.added.as_slice())?;
+    reserve_groups(groups, plan.added.len())?;
+    Ok(commit(groups, party, plan, rows))
 }
 
 /// One more hold of a party on a registered group. It takes no memory.
@@ -77,8 +201,6 @@ pub(crate) fn hold_one(
     ensures full { (full : _) → result ≡ Err full → (entries : List EntryOf) (given : GivenOf)
         → hold (registry_of engine.now entries given (standings_of counts.old.items)) party number ≡ Err full }
     ensures err { OnErr result (counts.new.items ≡ counts.old.items) }
-    ensures stands { (made : List Made) → AreStanding engine.now made (standings_of counts.old.items)
-        → AreStanding engine.now made (standings_of counts.new.items) }
 {
     let bound = engine.limits().holds;
     let wanted = held_by(counts.as_slice(), party, number) + 1;
@@ -91,118 +213,4 @@ pub(crate) fn hold_one(
     }
     gain(counts, party, number);
     Ok(())
-}
-
-fn first_index(indices: &Seq<VMSharedTypeIndex>) -> VMSharedTypeIndex
-    requires { 0 < length indices.now }
-    ensures { slice_get indices.now 0 ≡ Some result }
-{
-    indices.as_slice()[0]
-}
-
-/// Registers a group that no entry has and that passes no limit but maybe that on holds, with one hold of
-/// the party. Answers its registration number and the index of its type.
-fn add_allowed(
-    alloc: Global,
-    engine: &Engine,
-    groups: &mut Groups,
-    party: u32,
-    group: WasmRecGroup,
-) -> Result<(u64, VMSharedTypeIndex), BuildRefusal>
-    requires kept { AreKept engine.now groups.old }
-    requires party { party < engine.now.limits.parties }
-    requires plain { IsOneFunction group }
-    requires new { find (λ entry. rec_group_eq entry.group group) groups.old.entries.items ≡ None }
-    requires allowed { first_full (wanted_at engine.now.limits (length groups.old.entries.items) groups.old.given.numbers) ≡ None }
-    ensures ok { IfOk result (λ entered. registered (registry_at engine.now groups.old) party (describe (made_by groups.old.entries.items) group.types)
-        ≡ Ok (entered_as entered.0 (describe (made_by groups.old.entries.items) group.types) entered.1, registry_at engine.now groups.new)) }
-    ensures full { (full : _) → result ≡ Err (BuildRefusal.Full full)
-        → registered (registry_at engine.now groups.old) party (describe (made_by groups.old.entries.items) group.types) ≡ Err full }
-    ensures named { IfOk result (λ entered. closed_tree (made_by groups.new.entries.items) entered.1
-        ≡ Some (record { tree = tree_of (made_by groups.old.entries.items) group.types; place = 0 })) }
-    ensures err { OnErr result (registry_at engine.now groups.new ≡ registry_at engine.now groups.old) }
-    ensures kept { AreKept engine.now groups.new }
-{
-    let limits = engine.limits();
-    if limits.holds < 1 {
-        return Err(BuildRefusal::Full(Full {
-            limit: Limit::Holds,
-            bound: limits.holds,
-            wanted: 1,
-        }));
-    }
-    groups.counts.reserve(1)?;
-    let number = groups.given.numbers + 1;
-    let holds = first_hold(alloc, limits.parties, party)?;
-    let index = add_group(alloc, &mut groups.entries, number, group)?;
-    groups.counts.push_reserved(Count { number, holds });
-    groups.given = Given {
-        numbers: number,
-        types: groups.given.types + 1,
-        references: groups.given.references,
-    };
-    Ok((number, index))
-}
-
-/// Registers a group that no entry has, with one hold of the party, unless a limit would be passed.
-fn add_held(
-    alloc: Global,
-    engine: &Engine,
-    groups: &mut Groups,
-    party: u32,
-    group: WasmRecGroup,
-) -> Result<(u64, VMSharedTypeIndex), BuildRefusal>
-    requires kept { AreKept engine.now groups.old }
-    requires party { party < engine.now.limits.parties }
-    requires plain { IsOneFunction group }
-    requires new { find (λ entry. rec_group_eq entry.group group) groups.old.entries.items ≡ None }
-    ensures ok { IfOk result (λ entered. registered (registry_at engine.now groups.old) party (describe (made_by groups.old.entries.items) group.types)
-        ≡ Ok (entered_as entered.0 (describe (made_by groups.old.entries.items) group.types) entered.1, registry_at engine.now groups.new)) }
-    ensures full { (full : _) → result ≡ Err (BuildRefusal.Full full)
-        → registered (registry_at engine.now groups.old) party (describe (made_by groups.old.entries.items) group.types) ≡ Err full }
-    ensures named { IfOk result (λ entered. closed_tree (made_by groups.new.entries.items) entered.1
-        ≡ Some (record { tree = tree_of (made_by groups.old.entries.items) group.types; place = 0 })) }
-    ensures err { OnErr result (registry_at engine.now groups.new ≡ registry_at engine.now groups.old) }
-    ensures kept { AreKept engine.now groups.new }
-{
-    let limits = engine.limits();
-    let registered = groups.entries.as_slice().len() as u64;
-    match passed_limit(limits, registered, groups.given.numbers) {
-        Some(full) => Err(BuildRefusal::Full(full)),
-        None => add_allowed(alloc, engine, groups, party, group),
-    }
-}
-
-/// One more hold of a party on the group of one type, which is registered now if no entry has it. Answers
-/// its registration number and the index of its type.
-pub(crate) fn register_group(
-    alloc: Global,
-    engine: &Engine,
-    groups: &mut Groups,
-    party: u32,
-    group: WasmRecGroup,
-) -> Result<(u64, VMSharedTypeIndex), BuildRefusal>
-    requires kept { AreKept engine.now groups.old }
-    requires party { party < engine.now.limits.parties }
-    requires plain { IsOneFunction group }
-    ensures ok { IfOk result (λ entered. registered (registry_at engine.now groups.old) party (describe (made_by groups.old.entries.items) group.types)
-        ≡ Ok (entered_as entered.0 (describe (made_by groups.old.entries.items) group.types) entered.1, registry_at engine.now groups.new)) }
-    ensures full { (full : _) → result ≡ Err (BuildRefusal.Full full)
-        → registered (registry_at engine.now groups.old) party (describe (made_by groups.old.entries.items) group.types) ≡ Err full }
-    ensures named { IfOk result (λ entered. closed_tree (made_by groups.new.entries.items) entered.1
-        ≡ Some (record { tree = tree_of (made_by groups.old.entries.items) group.types; place = 0 })) }
-    ensures err { OnErr result (registry_at engine.now groups.new ≡ registry_at engine.now groups.old) }
-    ensures kept { AreKept engine.now groups.new }
-{
-    match find_group(groups.entries.as_slice(), &group) {
-        Some(entry) => {
-            let number = entry.number;
-            let index = first_index(&entry.indices);
-            match hold_one(engine, &mut groups.counts, party, number) {
-                Ok(()) => Ok((number, index)),
-                Err(full) => Err(BuildRefusal::Full(full)),
-            }
-        }
-        None => add_held(alloc, engine, groups, party, group),
-    }
 }

@@ -1,7 +1,7 @@
 //! What the registry keeps of one registered group.
 
 use wt_env::seq::Seq;
-use wt_env::types::{VMSharedTypeIndex, WasmRecGroup};
+use wt_env::types::{VMSharedTypeIndex, WasmRecGroup, WasmSubType};
 
 /// One registered recursion group.
 #[derive(Debug, Drop)]
@@ -10,6 +10,8 @@ pub struct Entry {
     pub(crate) number: u64,
     /// The key: references that leave the group are engine indices, its own are places.
     pub(crate) group: WasmRecGroup,
+    /// The members with every reference as an engine index, as they are shown.
+    pub(crate) shown: Seq<WasmSubType>,
     /// The registration number and place that each reference names that leaves the group, in order of
     /// occurrence.
     pub(crate) outer: Seq<(u64, u32)>,

@@ -9,5 +9,8 @@ use crate::entry::{Entry, Given};
 pub struct Groups {
     pub(crate) entries: Vec<Entry>,
     pub(crate) counts: Vec<Count>,
+    /// A mark for each group, for the time of a search of what is reached: their room is taken when a group
+    /// is registered.
+    pub(crate) marks: Vec<bool>,
     pub(crate) given: Given,
 }

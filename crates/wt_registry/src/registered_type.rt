@@ -97,8 +97,10 @@ impl Hash for RegisteredType {
 }
 
 impl RegisteredType {
-    ghost use Rattle.wt_registry.specs.Registry.{drop as drop_of};
-    ghost use Rattle.wt_registry.specs.Registry.{sub_type_at, register, root as root_of, hold, closed_tree, tree_of};
+    ghost use Rattle.wt_registry.specs.Removal.{drop_hold as drop_of};
+    ghost use Rattle.wt_registry.specs.Registry.{root as root_of, hold, closed_tree, tree_of};
+    ghost use Rattle.wt_registry.specs.Keys.{sub_type_at};
+    ghost use Rattle.wt_registry.specs.Plan.{register};
     ghost use Rattle.wt_registry.specs.Sound.{IsSound, Grows, Loses};
 
     /// Registers a type for a party, and gives the party one hold of it. A type whose closed tree is that
@@ -118,6 +120,8 @@ impl RegisteredType {
 
         ensures ok { IfOk result (λ hold. register registry.old party.old ty ≡ Ok (hold, registry.new)) }
         ensures full { (full : _) → result ≡ Err (BuildRefusal.Full full) → register registry.old party.old ty ≡ Err full }
+        ensures valid { (place : _) (rule : _) → result ≡ Err (BuildRefusal.InvalidModule place rule) → ⊥ }
+        ensures has_gc { result ≡ Err BuildRefusal.NoGc → ⊥ }
         ensures named { IfOk result (λ hold. closed_tree registry.new.made hold.index
             ≡ Some (record { tree = tree_of registry.old.made (ty ∷ []); place = 0 })) }
         ensures err { OnErr result (registry.new ≡ registry.old) }

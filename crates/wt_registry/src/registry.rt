@@ -1,19 +1,23 @@
 //! The registry: the groups that stand in it, and what can be asked of it.
 
+use crate::collection::TypeCollection;
 use crate::debt::{Debt, Swept};
-use crate::enter::{hold_one, register_group};
+use crate::enter::{carry_out, hold_one};
 use crate::entry::Given;
 use crate::groups::Groups;
 use crate::live::LiveGroup;
+use crate::plan::{Plan, plan_groups, plan_key};
 use crate::refusal::{BuildRefusal, Full};
+use crate::registered_type::PartyNumber;
 use crate::search::{borrow_from, live_groups, number_at};
-use crate::sweeping::{end_hold, sweep_group};
+use crate::sweeping::{end_hold, release_groups, sweep_group};
+use crate::validity::{are_functions, first_broken};
 use std::alloc::Global;
 use std::marker::Model;
 use wt_env::limits::Engine;
 use wt_env::memory::OutOfMemory;
 use wt_env::seq::Seq;
-use wt_env::types::{VMSharedTypeIndex, WasmRecGroup, WasmSubType};
+use wt_env::types::{ModuleTypes, VMSharedTypeIndex, WasmRecGroup, WasmSubType};
 
 /// The recursion groups that an engine has registered.
 #[derive(Drop)]
@@ -25,7 +29,8 @@ pub struct TypeRegistry {
 
 impl Model for TypeRegistry {
     ghost use Rattle.wt_registry.specs.Registry.{Registry};
-    ghost use Rattle.wt_registry.specs.Entries.{registry_at, AreKept};
+    ghost use Rattle.wt_registry.specs.Entries.{registry_at};
+    ghost use Rattle.wt_registry.specs.Kept.{AreKept};
 
     ghost Value = { Registry };
 
@@ -35,13 +40,17 @@ impl Model for TypeRegistry {
 }
 
 impl TypeRegistry {
-    ghost use Rattle.std.specs.Prelude.{◌≡◌, ◌<◌, ◌≤◌, ◌∷◌, [], ◌↔◌, IsTrue, IsSome, IfOk, OnOk, OnErr, Ok, Err, Some, true, option_map};
+    ghost use Rattle.std.specs.Prelude.{◌≡◌, ℕ, ◌<◌, ◌≤◌, ◌⊎◌, ◌∷◌, [], ◌↔◌, map, false, None, IsTrue, IsSome, IfOk, OnOk, OnErr, Ok, Err, Some, true, option_map};
     ghost use Rattle.std.specs.Option.{option_copied};
     ghost use Rattle.wt_tree.specs.NumberFunction.{is_number_function};
-    ghost use Rattle.wt_registry.specs.Registry as registry;
-    ghost use Rattle.wt_registry.specs.Registry.{empty_registry, locate, sub_type_at, describe, registered, hold, held_at, closed_tree, tree_of};
-    ghost use Rattle.wt_registry.specs.Sound.{IsSound, Sweeps};
-    ghost use Rattle.wt_registry.specs.Entries.{entered_as};
+    ghost use Rattle.wt_registry.specs.Registry.{empty_registry, locate, number_of, hold, held_at, closed_tree, tree_of};
+    ghost use Rattle.wt_registry.specs.Keys.{sub_type_at};
+    ghost use Rattle.wt_registry.specs.Plan.{register as register_of, register_groups};
+    ghost use Rattle.wt_registry.specs.Removal.{drop_hold, sweep_debt, release_holds};
+    ghost use Rattle.wt_registry.specs.Validity.{AreCountable, AreModuleTypes, first_broken as broken_of, are_functions as all_functions};
+    ghost use Rattle.wt_tree.specs.ModuleTree.{module_trees};
+    ghost use Rattle.wt_registry.specs.Sound.{IsSound, Grows, Sweeps};
+    ghost use Rattle.wt_registry.specs.Holdings.{IsHolding, Gains, Releases};
     ghost use Rattle.wt_registry.specs.Live.{live_of};
 
     /// A registry of the engine in which nothing is registered. It takes no memory.
@@ -55,6 +64,7 @@ impl TypeRegistry {
             groups: Groups {
                 entries: Vec::new(alloc),
                 counts: Vec::new(alloc),
+                marks: Vec::new(alloc),
                 given: Given {
                     numbers: 0,
                     types: 0,
@@ -104,7 +114,7 @@ impl TypeRegistry {
     /// `Kept` where the group is registered and doesn't wait, and `Gone` where that registration is no longer
     /// there. It takes no memory, and is never refused.
     pub fn sweep(&mut self, debt: Debt) -> Swept
-        ensures swept { registry.sweep self.old debt ≡ (result, self.new) }
+        ensures swept { sweep_debt self.old debt ≡ (result, self.new) }
         ensures sweeps { Sweeps self.old self.new }
         ensures sound { IsSound self.new }
     {
@@ -123,18 +133,97 @@ impl TypeRegistry {
     ) -> Result<(u64, VMSharedTypeIndex), BuildRefusal>
         requires plain { is_number_function ty ≡ true }
         requires party { party < self.old.engine.limits.parties }
-        ensures ok { IfOk result (λ entered. registered self.old party (describe self.old.made (ty ∷ []))
-            ≡ Ok (entered_as entered.0 (describe self.old.made (ty ∷ [])) entered.1, self.new)) }
-        ensures full { (full : _) → result ≡ Err (BuildRefusal.Full full) → registered self.old party (describe self.old.made (ty ∷ [])) ≡ Err full }
+        ensures ok { IfOk result (λ entered. register_of self.old party ty
+            ≡ Ok (record { engine = self.old.engine.number; index = entered.1; number = entered.0; party = party }, self.new)) }
+        ensures full { (full : _) → result ≡ Err (BuildRefusal.Full full) → register_of self.old party ty ≡ Err full }
+        ensures valid { (place : _) (rule : _) → result ≡ Err (BuildRefusal.InvalidModule place rule) → ⊥ }
+        ensures has_gc { result ≡ Err BuildRefusal.NoGc → ⊥ }
         ensures named { IfOk result (λ entered. closed_tree self.new.made entered.1
             ≡ Some (record { tree = tree_of self.old.made (ty ∷ []); place = 0 })) }
+        ensures grows { IfOk result (λ entered. Grows self.old self.new party entered.0) }
+        ensures located { IfOk result (λ entered. number_of self.new.made entered.1 ≡ Some entered.0) }
         ensures err { OnErr result (self.new ≡ self.old) }
         ensures sound { IsSound self.new }
     {
-        let group = WasmRecGroup {
+        let key = WasmRecGroup {
             types: Seq::one(self.alloc, ty)?,
         };
-        register_group(self.alloc, &self.engine, &mut self.groups, party, group)
+        let mut plan = Plan::new(self.alloc, self.groups.given);
+        plan_key(self.alloc, self.groups.entries.as_slice(), &mut plan, key)?;
+        let (numbers, map) = carry_out(self.alloc, &self.engine, &mut self.groups, party, plan)?;
+        Ok((numbers[0], map[0]))
+    }
+
+    /// Registers the recursion groups of a module for a party, and gives the party one hold of each group for
+    /// each time that it occurs. A group whose closed trees are those of a registered one is that one, with its
+    /// indices. Otherwise it gets the next registration number and the smallest free indices.
+    ///
+    /// It is refused `InvalidModule` exactly where a rule is broken, `NoGc` exactly where none is, the engine has
+    /// no garbage collection and some type is no function, and `Full` exactly where else a limit would be
+    /// passed: on groups, types, references, registration numbers or holds, and the first of them in this order
+    /// is told. A refusal leaves all as before, want of memory included.
+    pub fn register_module(
+        &mut self,
+        party: &mut PartyNumber,
+        types: &ModuleTypes,
+    ) -> Result<TypeCollection, BuildRefusal>
+        requires countable { AreCountable types.now.groups }
+        requires named { AreModuleTypes types.now.groups }
+        requires party { party.old < self.old.engine.limits.parties }
+        ensures ok { IfOk result (λ held. register_groups self.old party.old types.now.groups ≡ Ok (held, self.new)) }
+        ensures valid { IfOk result (λ held. broken_of types.now.groups ≡ None) }
+        ensures invalid { (place : _) (rule : _) → result ≡ Err (BuildRefusal.InvalidModule place rule) → broken_of types.now.groups ≡ Some (place, rule) }
+        ensures allowed { IfOk result (λ held. (self.old.engine.gc ≡ true) ⊎ (all_functions types.now.groups ≡ true)) }
+        ensures no_gc { result ≡ Err BuildRefusal.NoGc
+            → (broken_of types.now.groups ≡ None) × (self.old.engine.gc ≡ false) × (all_functions types.now.groups ≡ false) }
+        ensures full { (full : _) → result ≡ Err (BuildRefusal.Full full)
+            → (broken_of types.now.groups ≡ None) × ((self.old.engine.gc ≡ true) ⊎ (all_functions types.now.groups ≡ true))
+            × (register_groups self.old party.old types.now.groups ≡ Err full) }
+        ensures named { IfOk result (λ held. map (closed_tree self.new.made) held.map ≡ map Some (module_trees [] types.now.groups)) }
+        ensures owner { IfOk result (λ held. held.party ≡ party.old) }
+        ensures holding { IfOk result (λ held. IsHolding self.new held) }
+        ensures gains { IfOk result (λ held. Gains self.old self.new party.old held.numbers) }
+        ensures err { OnErr result (self.new ≡ self.old) }
+        ensures party { party.new ≡ party.old }
+        ensures sound { IsSound self.new }
+    {
+        self.assure();
+        if let Some((place, rule)) = first_broken(types) {
+            return Err(BuildRefusal::InvalidModule { place, rule });
+        }
+        if !self.engine.gc() && !are_functions(types) {
+            return Err(BuildRefusal::NoGc);
+        }
+        let mut plan = Plan::new(self.alloc, self.groups.given);
+        let entries = self.groups.entries.as_slice();
+        plan_groups(self.alloc, entries, &mut plan, types.groups.as_slice())?;
+        let (numbers, map) = carry_out(
+            self.alloc,
+            &self.engine,
+            &mut self.groups,
+            party.number(),
+            plan,
+        )?;
+        Ok(TypeCollection::new(self.engine.number(), party.number(), numbers, map))
+    }
+
+    /// Ends the holds of a module's types, and removes at once each group that is reached by no hold and by no
+    /// group that waits any more. It takes no memory, and is never refused.
+    pub fn release(&mut self, party: &mut PartyNumber, collection: TypeCollection)
+        requires owner { party.old ≡ collection.party }
+        requires held { IsHolding self.old collection }
+        ensures released { release_holds self.old party.old collection.numbers ≡ self.new }
+        ensures releases { Releases self.old self.new party.old collection.numbers }
+        ensures same_party { party.new ≡ party.old }
+        ensures sound { IsSound self.new }
+    {
+        release_groups(
+            &self.engine,
+            &mut self.groups,
+            party.number(),
+            collection.numbers(),
+        );
+        collection.forget();
     }
 
     /// The registration number of the group of the type that has this index.
@@ -160,9 +249,12 @@ impl TypeRegistry {
     pub(crate) fn end_hold(&mut self, party: u32, number: u64) -> Option<Debt>
         requires party { party < self.old.engine.limits.parties }
         requires held { 1 ≤ held_at self.old.standings party number }
-        ensures dropped { registry.drop self.old party number ≡ (result, self.new) }
+        ensures dropped { drop_hold self.old party number ≡ (result, self.new) }
         ensures sound { IsSound self.new }
     {
         end_hold(&self.engine, &mut self.groups, party, number)
     }
 }
+
+#[cfg(test)]
+mod tests;

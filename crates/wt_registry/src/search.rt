@@ -1,11 +1,13 @@
 //! The plain searches of the registered groups: each looks at one after another.
 
-ghost use Rattle.std.specs.Prelude.{◌≡◌, ◌^◌, ◌<◌, [], ◌∷◌, ◌++◌, length, false, IfOk, OnErr, ◌==◌, position, map, option_map};
+ghost use Rattle.std.specs.Prelude.{◌≡◌, ℕ, ◌^◌, ◌<◌, [], ◌∷◌, ◌++◌, length, false, IfOk, OnErr, ◌==◌, position, map, option_map};
 ghost use Rattle.std.specs.List.{find, list_any, AllByRecursion};
 ghost use Rattle.std.specs.Option.{option_copied};
 ghost use Rattle.wt_env.specs.Equality.{rec_group_eq};
-ghost use Rattle.wt_registry.specs.Registry.{used, is_used as is_used_number, smallest_free as smallest_free_number, place_in, sub_type_at, locate};
-ghost use Rattle.wt_registry.specs.Entries.{made_by, IsPlain};
+ghost use Rattle.wt_registry.specs.Registry.{used, is_used as is_used_number, place_in, locate};
+ghost use Rattle.wt_registry.specs.Keys.{sub_type_at, AreKeys};
+ghost use Rattle.wt_registry.specs.Kept.{AreShown};
+ghost use Rattle.wt_registry.specs.Entries.{made_by};
 ghost use Rattle.wt_registry.specs.Live.{live_of};
 
 use crate::entry::Entry;
@@ -38,23 +40,10 @@ fn any_holds_index(entries: &[Entry], candidate: u32) -> bool
     entries.iter().any(|entry| holds_index(entry, candidate))
 }
 
-fn is_used(entries: &[Entry], candidate: u32) -> bool
+pub(crate) fn is_used(entries: &[Entry], candidate: u32) -> bool
     ensures { result ≡ is_used_number (used (made_by entries.now)) candidate }
 {
     any_holds_index(entries, candidate)
-}
-
-/// The smallest index that no registered type has.
-fn smallest_free(entries: &[Entry]) -> u32
-    requires { length (used (made_by entries.now)) < 2 ^ 32 }
-    ensures value { result ≡ smallest_free_number (used (made_by entries.now)) }
-    ensures free { is_used_number (used (made_by entries.now)) result ≡ false }
-{
-    let mut candidate: u32 = 0;
-    while is_used(entries, candidate) {
-        candidate += 1;
-    }
-    candidate
 }
 
 fn position_of(indices: &[VMSharedTypeIndex], index: VMSharedTypeIndex) -> Option<usize>
@@ -63,7 +52,7 @@ fn position_of(indices: &[VMSharedTypeIndex], index: VMSharedTypeIndex) -> Optio
     indices.iter().position(|at| at.bits() == index.bits())
 }
 
-fn place_of(indices: &[VMSharedTypeIndex], index: VMSharedTypeIndex) -> Option<usize>
+pub(crate) fn place_of(indices: &[VMSharedTypeIndex], index: VMSharedTypeIndex) -> Option<usize>
     ensures { result ≡ place_in index indices.now }
 {
     position_of(indices, index)
@@ -71,12 +60,13 @@ fn place_of(indices: &[VMSharedTypeIndex], index: VMSharedTypeIndex) -> Option<u
 
 /// The sub type that has this index.
 pub(crate) fn borrow_from(entries: &[Entry], index: VMSharedTypeIndex) -> Option<&WasmSubType>
-    requires { AllByRecursion IsPlain entries.now }
+    requires keys { (top : ℕ) × AreKeys entries.now top }
+    requires shown { AreShown entries.now }
     ensures { option_copied result ≡ sub_type_at (made_by entries.now) index }
 {
     for entry in entries {
         if let Some(place) = place_of(entry.indices.as_slice(), index) {
-            return entry.group.types.get(place);
+            return entry.shown.get(place);
         }
     }
     None
@@ -102,30 +92,6 @@ pub(crate) fn live_groups(alloc: Global, entries: &[Entry]) -> Result<Seq<LiveGr
         })?;
     }
     Ok(groups)
-}
-
-/// Registers the group of one type under this number, with the smallest free index, which it answers.
-pub(crate) fn add_group(
-    alloc: Global,
-    entries: &mut Vec<Entry>,
-    number: u64,
-    group: WasmRecGroup,
-) -> Result<VMSharedTypeIndex, OutOfMemory>
-    requires { length (used (made_by entries.old.items)) < 2 ^ 32 }
-    ensures ok { IfOk result (λ index. entries.new.items ≡ entries.old.items
-        ++ record { number = number; group = group; outer = []; indices = index ∷ [] } ∷ []) }
-    ensures index { IfOk result (λ index. index.0 ≡ smallest_free_number (used (made_by entries.old.items))) }
-    ensures free { IfOk result (λ index. is_used_number (used (made_by entries.old.items)) index.0 ≡ false) }
-    ensures err { OnErr result (entries.new.items ≡ entries.old.items) }
-{
-    let index = VMSharedTypeIndex::new(smallest_free(entries.as_slice()));
-    entries.push(Entry {
-        number,
-        group,
-        outer: Seq::new(alloc),
-        indices: Seq::one(alloc, index)?,
-    })?;
-    Ok(index)
 }
 
 /// The registration number of the group of the type that has this index.

@@ -1,19 +1,71 @@
-//! The end of a hold, and sweeps.
+//! The end of holds, sweeps, and the removal of what isn't reached any more.
 
-ghost use Rattle.std.specs.Prelude.{◌≡◌, ◌^◌, ◌<◌, ◌≤◌, ◌-◌, length};
+ghost use Rattle.std.specs.Prelude.{◌≡◌, ◌^◌, ℕ, Bool, true, ◌<◌, ◌≤◌, length, map};
 ghost use Rattle.wt_env.specs.Limits.{EngineParts};
 ghost use Rattle.wt_registry.specs.Registry as registry;
-ghost use Rattle.wt_registry.specs.Registry.{held_at};
+ghost use Rattle.wt_registry.specs.Registry.{Among, held_at};
+ghost use Rattle.wt_registry.specs.Plan.{times};
+ghost use Rattle.wt_registry.specs.declared.counts.Count.{Count as CountOf};
+ghost use Rattle.wt_registry.specs.Removal.{drop_hold, sweep_debt, release_holds, fewer_of, is_rooted, is_root, is_reached, reached_part, marked};
 ghost use Rattle.wt_registry.specs.Counts.{standings_of};
-ghost use Rattle.wt_registry.specs.Entries.{registry_at, AreKept};
+ghost use Rattle.wt_registry.specs.Entries.{made_by, registry_at};
+ghost use Rattle.wt_registry.specs.Kept.{AreKept, IsReady, kept_entries};
 
-use crate::counts::{has_number, lose, remove_count, remove_entry, waits};
+use crate::counts::{Count, entry_place, has_number, is_held, lose, set_waits, waits};
 use crate::debt::{Debt, Swept};
 use crate::groups::Groups;
+use crate::reach::{mark_reached, remove_unmarked};
 use wt_env::limits::Engine;
 
-/// Ends a hold of a party on a group. Where nobody holds the group any more, it waits, and the party owes a
-/// sweep of it. It takes no memory.
+/// Whether each group is held or waits, in order.
+fn mark_roots(counts: &[Count], marks: &mut [bool])
+    requires { length marks.old ≡ length counts.now }
+    ensures { marks.new ≡ map is_rooted (standings_of counts.now) }
+{
+    for (place, count) in counts.iter().enumerate() {
+        marks[place] = is_held(&count.holds) || count.waits;
+    }
+}
+
+/// Marks the groups that are reached from what is held or waits. It takes no memory.
+fn mark(groups: &mut Groups)
+    requires { IsReady groups.old }
+    ensures marks { groups.new.marks.items ≡ marked (is_reached (made_by groups.old.entries.items) (is_root (standings_of groups.old.counts.items))) (made_by groups.old.entries.items) }
+    ensures entries { groups.new.entries ≡ groups.old.entries }
+    ensures counts { groups.new.counts ≡ groups.old.counts }
+    ensures given { groups.new.given ≡ groups.old.given }
+{
+    mark_roots(groups.counts.as_slice(), groups.marks.as_mut_slice());
+    mark_reached(groups.entries.as_slice(), groups.marks.as_mut_slice());
+}
+
+/// Whether the group with this number is marked.
+fn is_marked(groups: &Groups, number: u64) -> bool
+    requires ready { IsReady groups.now }
+    ensures { (keep : ℕ → Bool) → groups.now.marks.items ≡ marked keep (made_by groups.now.entries.items)
+        → registry.is_registered (made_by groups.now.entries.items) number ≡ true → result ≡ keep number }
+{
+    match entry_place(groups.entries.as_slice(), number) {
+        Some(place) => groups.marks[place],
+        None => false,
+    }
+}
+
+/// Removes what isn't reached any more. It takes no memory.
+fn remove_unreached(groups: &mut Groups)
+    requires { IsReady groups.old }
+    ensures part { (engine : EngineParts) → reached_part (registry_at engine groups.old) ≡ registry_at engine groups.new }
+    ensures entries { groups.new.entries.items ≡ kept_entries (is_reached (made_by groups.old.entries.items) (is_root (standings_of groups.old.counts.items))) groups.old.entries.items }
+    ensures marks { length groups.new.marks.items ≡ length groups.new.entries.items }
+{
+    mark(groups);
+    remove_unmarked(&mut groups.entries, groups.marks.as_slice());
+    remove_unmarked(&mut groups.counts, groups.marks.as_slice());
+    groups.marks.truncate(groups.entries.len());
+}
+
+/// Ends a hold of a party on a group. Where the group is reached by nothing any more, it waits, and the party
+/// owes a sweep of it. It takes no memory.
 pub(crate) fn end_hold(
     engine: &Engine,
     groups: &mut Groups,
@@ -23,42 +75,57 @@ pub(crate) fn end_hold(
     requires kept { AreKept engine.now groups.old }
     requires party { party < engine.now.limits.parties }
     requires held { 1 ≤ held_at (standings_of groups.old.counts.items) party number }
-    ensures dropped { registry.drop (registry_at engine.now groups.old) party number ≡ (result, registry_at engine.now groups.new) }
+    ensures dropped { drop_hold (registry_at engine.now groups.old) party number ≡ (result, registry_at engine.now groups.new) }
     ensures kept { AreKept engine.now groups.new }
 {
     lose(&mut groups.counts, party, number);
-    if waits(groups.counts.as_slice(), number) {
-        Some(Debt::new(number))
-    } else {
-        None
+    mark(groups);
+    if is_marked(groups, number) {
+        return None;
     }
+    set_waits(&mut groups.counts, number, true);
+    Some(Debt::new(number))
 }
 
-/// Removes a group.
-fn remove_group(groups: &mut Groups, number: u64) -> u32
-    requires { length groups.old.entries.items < 2 ^ 32 }
-    ensures swept { (engine : EngineParts) → registry.without_group (registry_at engine groups.old) number ≡ registry_at engine groups.new }
-    ensures count { result ≡ length groups.old.entries.items - length groups.new.entries.items }
-    ensures kept { (engine : EngineParts) → AreKept engine groups.old → AreKept engine groups.new }
-{
-    let before = groups.entries.as_slice().len();
-    remove_entry(&mut groups.entries, number);
-    remove_count(&mut groups.counts, number);
-    (before - groups.entries.as_slice().len()) as u32
-}
-
-/// Sweeps the group of a debt. It takes no memory.
+/// Sweeps the group of a debt: where it waits, it is removed with all that only it reached. It takes no memory.
 pub(crate) fn sweep_group(groups: &mut Groups, number: u64) -> Swept
-    requires { length groups.old.entries.items < 2 ^ 32 }
-    ensures swept { (engine : EngineParts) → registry.sweep (registry_at engine groups.old) number ≡ (result, registry_at engine groups.new) }
+    requires few { length groups.old.entries.items < 2 ^ 32 }
+    requires ready { IsReady groups.old }
+    ensures swept { (engine : EngineParts) → sweep_debt (registry_at engine groups.old) number ≡ (result, registry_at engine groups.new) }
     ensures kept { (engine : EngineParts) → AreKept engine groups.old → AreKept engine groups.new }
 {
     if waits(groups.counts.as_slice(), number) {
-        return Swept::Removed(remove_group(groups, number));
+        let before = groups.entries.as_slice().len();
+        set_waits(&mut groups.counts, number, false);
+        remove_unreached(groups);
+        return Swept::Removed((before - groups.entries.as_slice().len()) as u32);
     }
     if has_number(groups.entries.as_slice(), number) {
         Swept::Kept
     } else {
         Swept::Gone
     }
+}
+
+/// One hold of a party less on each of these groups, in turn.
+fn lose_each(counts: &mut Vec<Count>, party: u32, numbers: &[u64])
+    requires parties { (count : CountOf) → Among count counts.old.items → party < length count.holds.items }
+    requires held { (number : ℕ) → times number numbers.now ≤ held_at (standings_of counts.old.items) party number }
+    ensures { standings_of counts.new.items ≡ fewer_of party numbers.now (standings_of counts.old.items) }
+{
+    for number in numbers {
+        lose(counts, party, *number);
+    }
+}
+
+/// Ends holds of a party, and removes what isn't reached any more. It takes no memory.
+pub(crate) fn release_groups(engine: &Engine, groups: &mut Groups, party: u32, numbers: &[u64])
+    requires kept { AreKept engine.now groups.old }
+    requires party { party < engine.now.limits.parties }
+    requires held { (number : ℕ) → times number numbers.now ≤ held_at (standings_of groups.old.counts.items) party number }
+    ensures released { release_holds (registry_at engine.now groups.old) party numbers.now ≡ registry_at engine.now groups.new }
+    ensures kept { AreKept engine.now groups.new }
+{
+    lose_each(&mut groups.counts, party, numbers);
+    remove_unreached(groups);
 }

@@ -7,7 +7,9 @@ use Rattle.wt_env.specs.declared.types.WasmSubType.{WasmSubType}
 use Rattle.wt_env.specs.declared.limits.Limit.TheVariants.{Parties}
 use Rattle.wt_registry.specs.declared.debt.Swept.{Swept}
 use Rattle.wt_registry.specs.declared.refusal.Full.{Full}
-use Rattle.wt_registry.specs.Registry.{Registry, Hold, register, root as rooted, hold as held, drop as dropped, sweep as swept}
+use Rattle.wt_registry.specs.Registry.{Registry, Hold, root as rooted, hold as held}
+use Rattle.wt_registry.specs.Plan.{register}
+use Rattle.wt_registry.specs.Removal.{drop_hold as dropped, sweep_debt as swept}
 use Rattle.wt_registry.specs.Live.{live_of}
 use Rattle.wt_session.specs.declared.command.HostVal.{HostVal}
 use Rattle.wt_session.specs.declared.command.HostVal.TheVariants as host

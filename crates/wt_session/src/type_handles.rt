@@ -2,7 +2,8 @@
 
 ghost use Rattle.std.specs.Prelude.{◌≡◌, ◌<◌, ◌++◌, ◌∷◌, [], length, IfOk, OnErr, Some, slice_get, slice_set, vec_len, vec_capacity};
 ghost use Rattle.std.specs.Option.{option_copied};
-ghost use Rattle.wt_registry.specs.Registry.{register, root as rooted};
+ghost use Rattle.wt_registry.specs.Registry.{root as rooted};
+ghost use Rattle.wt_registry.specs.Plan.{register};
 ghost use Rattle.wt_session.specs.World.{type_at, debt_at};
 ghost use Rattle.wt_session.specs.Run.{sub_type_of, type_made, clone_made, root_made, type_dropped, debt_swept};
 ghost use Rattle.wt_session.specs.Session.{AreHandles, Keeps};
@@ -66,6 +67,7 @@ pub(crate) fn register_type(
         Ok(hold) => Ok(push_type(row, hold)),
         Err(BuildRefusal::Full(full)) => Ok(Reply::Refused(Refusal::Full(full))),
         Err(BuildRefusal::OutOfMemory) => Err(OutOfMemory),
+        Err(BuildRefusal::InvalidModule { .. } | BuildRefusal::NoGc) => unreachable!(),
     }
 }
 

@@ -2,6 +2,8 @@ pub mod Canonical
 pub mod Changing
 pub mod Closing
 pub mod Leaving
+pub mod LeftReferences
+pub mod ModuleTrees
 pub mod Numbering
 pub mod Plain
 pub mod References

@@ -1,7 +1,7 @@
 use Rattle.std.proofs.Common.{rules, sym, ◌∙◌}
 use Rattle.wt_registry.proofs.Found.{found_within}
 use Rattle.wt_registry.proofs.Held.{held_at-found, change-found, change-none, among-found}
-use Rattle.wt_registry.specs.Registry.{lost}
+use Rattle.wt_registry.specs.Removal.{fewer}
 use Rattle.wt_registry.proofs.counts.lose.Goals as goal
 
 pub index_mut-requires : goal.index_mut-requires
@@ -24,9 +24,9 @@ lower-requires-clause-held c =
 pub returns-in-Some : goal.returns-in-Some
 returns-in-Some c =
     let found = rw c.deref.ensures.value at (sym c.place_of.ensures ∙ c.in-Some.is) in
-    change-found c.args.number c.in-Some.place (lost c.args.party) c.args.counts.now.items c.index_mut.result.now c.lower.new.count found c.index_mut.ensures.value c.lower.ensures
+    change-found c.args.number c.in-Some.place (fewer c.args.party) c.args.counts.now.items c.index_mut.result.now c.lower.new.count found c.index_mut.ensures.value c.lower.ensures
 
 pub returns-in_default : goal.returns-in_default
 returns-in_default c =
     let missing = rw c.deref.ensures.value at (sym c.place_of.ensures ∙ c.in_default.is) in
-    change-none c.args.number (lost c.args.party) c.args.counts.now.items missing
+    change-none c.args.number (fewer c.args.party) c.args.counts.now.items missing

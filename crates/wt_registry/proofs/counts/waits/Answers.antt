@@ -1,7 +1,7 @@
-use Rattle.std.proofs.Common.{rules, not, ap, sym, ◌∙◌}
+use Rattle.std.proofs.Common.{rules, ap, sym, ◌∙◌}
+use Rattle.wt_registry.specs.declared.counts.Count.{Count}
 use Rattle.wt_registry.proofs.Found.{found_within}
 use Rattle.wt_registry.proofs.Held.{waits_at-found, waits_at-none}
-use Rattle.wt_registry.specs.Registry.{is_held}
 use Rattle.wt_registry.proofs.counts.waits.Goals as goal
 
 pub offset_bounds-counts-place : goal.offset_bounds-counts-place
@@ -15,9 +15,11 @@ bounds-counts-place c = found_within _ c.in-Some.place c.args.counts.now (sym c.
 pub returns-in-Some : goal.returns-in-Some
 returns-in-Some c =
     let found = sym c.place_of.ensures ∙ c.in-Some.is in
-    let waits = waits_at-found c.args.number c.in-Some.place c.args.counts.now c.index-counts-place.result found c.index-counts-place.is in
-    let held = c.is_held.ensures ∙ ap is_held (rw (← c.index-counts-place.is) at c.deref.ensures.value) in
-    ap not held ∙ waits
+    ap (λ (count : Count). count.waits) (sym c.index-counts-place.is)
+    ∙ waits_at-found c.args.number c.in-Some.place c.args.counts.now c.index-counts-place.result found c.index-counts-place.is
 
 pub returns-in-None : goal.returns-in-None
 returns-in-None c = waits_at-none c.args.number c.args.counts.now (sym c.place_of.ensures ∙ c.in-None.is)
+
+pub bounds-counts-place-in-Some : goal.bounds-counts-place-in-Some
+bounds-counts-place-in-Some c = found_within _ c.in-Some.place c.args.counts.now (sym c.place_of.ensures ∙ c.in-Some.is)

@@ -1,10 +1,8 @@
 -- a count has a place for the party, and stays within its type
 use Rattle.std.proofs.Common.{◌+◌, ◌≤◌, ◌^◌, sym, ap, subst, arith}
 use Rattle.wt_registry.specs.Registry.{held_at}
-use Rattle.wt_registry.specs.Sound.{AreStanding}
 use Rattle.wt_registry.specs.Counts.{standings_of}
-use Rattle.wt_registry.proofs.Adding.{HavePlaces, has_place, held_at-bounded}
-use Rattle.wt_registry.proofs.Standings.{gained-stands}
+use Rattle.wt_registry.proofs.Counted.{HavePlaces, has_place, held_at-bounded}
 use Rattle.wt_registry.proofs.enter.hold_one.Goals as goal
 
 pub held_by-wanted-requires : goal.held_by-wanted-requires
@@ -22,12 +20,3 @@ overflow_add-wanted c =
 
 pub gain-requires-clause-parties : goal.gain-requires-clause-parties
 gain-requires-clause-parties c = has_place c.args.engine.now c.args.counts.now.items c.args.party c.requires.counted c.requires.party
-
-pub returns-clause-stands : goal.returns-clause-stands
-returns-clause-stands c = λ made stands.
-    let engine = c.args.engine.now in
-    let standings = standings_of c.args.counts.now.items in
-    let same = ap (λ counts. held_at (standings_of counts) c.args.party c.args.number) c.as_slice.ensures.value in
-    let limit = ap (λ limits. limits.holds) c.limits-bound.ensures.value in
-    let room : held_at standings c.args.party c.args.number + 1 ≤ engine.limits.holds = omega (arith, same, limit, c.held_by-wanted.ensures, c.if-bound-wanted.false) in
-    subst (AreStanding engine made) (sym c.gain.ensures) (gained-stands engine made standings c.args.party c.args.number stands c.requires.party room)

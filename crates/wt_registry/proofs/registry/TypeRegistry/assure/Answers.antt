@@ -1,7 +1,7 @@
 -- what is kept is sound
 use Rattle.std.proofs.Common.{subst}
 use Rattle.wt_registry.specs.Sound.{IsSound}
-use Rattle.wt_registry.proofs.Kept.{sound}
+use Rattle.wt_registry.proofs.Soundness.{sound}
 use Rattle.wt_registry.proofs.registry.TypeRegistry.assure.Goals as goal
 
 pub returns : goal.returns

@@ -1,22 +1,27 @@
--- an index is that of a type exactly where it is located
-use Rattle.std.proofs.Common.{◌≡◌, Option, Some, None, is_some, option_map, refl, sym, ap, ◌∙◌}
-use Rattle.wt_registry.specs.Registry.{Registry, locate, sub_type_at}
+-- an index has a sub type exactly where it is located
+use Rattle.std.proofs.Common.{◌≡◌, Option, Some, None, is_some, option_map, refl, sym, ap, subst, ◌∙◌}
+use Rattle.wt_registry.specs.Registry.{Registry, locate}
 use Rattle.wt_registry.specs.Entries.{made_by}
-use Rattle.wt_registry.proofs.Kept.{borrowed-located}
+use Rattle.wt_registry.specs.Keys.{sub_type_at}
+use Rattle.wt_registry.specs.Kept.{AreShown}
+use Rattle.wt_registry.proofs.Borrowed.{borrowed-located}
 use Rattle.wt_registry.proofs.registry.TypeRegistry.borrow.Goals as goal
 
 is_some-map : {A B : Type 0} (f : A → B) (o : Option A) → is_some (option_map f o) ≡ is_some o
 is_some-map f (Some x) = refl
 is_some-map f None = refl
 
+pub borrow_from-requires-clause-shown : goal.borrow_from-requires-clause-shown
+borrow_from-requires-clause-shown c = subst AreShown (sym c.as_slice.ensures.value) c.self.invariant.shown
+
 pub returns-clause-found : goal.returns-clause-found
 returns-clause-found c =
-    let entries = c.self.inside.groups.entries.items in
+    let groups = c.self.inside.groups in
     let i = c.args.index in
     let same : is_some c.borrow_from.result ≡ is_some (locate c.args.self.now.made i) =
     sym (is_some-map (λ x. x.now) c.borrow_from.result)
     ∙ ap is_some c.borrow_from.ensures
     ∙ ap (λ es. is_some (sub_type_at (made_by es) i)) c.as_slice.ensures.value
-    ∙ borrowed-located entries i c.self.invariant.entries.plain
+    ∙ borrowed-located groups.entries.items groups.given.numbers i c.self.invariant.keys
     ∙ ap (λ (r : Registry). is_some (locate r.made i)) c.self.view_is in
     ((λ found. sym same ∙ found), (λ found. same ∙ found))

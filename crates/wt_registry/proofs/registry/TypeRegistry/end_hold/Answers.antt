@@ -1,5 +1,5 @@
 -- a hold less keeps what is kept
-use Rattle.wt_registry.proofs.Kept.{sound}
+use Rattle.wt_registry.proofs.Soundness.{sound}
 use Rattle.wt_registry.proofs.registry.TypeRegistry.end_hold.Goals as goal
 
 pub returns-clause-sound : goal.returns-clause-sound

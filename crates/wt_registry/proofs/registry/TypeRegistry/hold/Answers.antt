@@ -1,18 +1,27 @@
 -- one more hold keeps what is kept
+use Rattle.std.proofs.Common.{◌<◌, sym, subst}
 use Rattle.wt_registry.specs.Entries.{made_by}
-use Rattle.wt_registry.proofs.Kept.{sound}
+use Rattle.wt_registry.specs.Registry.{Registry}
+use Rattle.wt_registry.proofs.AddedKeys.{names_older}
+use Rattle.wt_registry.proofs.HoldKept.{hold-keeps}
+use Rattle.wt_registry.proofs.Soundness.{sound}
 use Rattle.wt_registry.proofs.registry.TypeRegistry.hold.Goals as goal
 
 pub invariant_of-self : goal.invariant_of-self
-invariant_of-self c = record {
-  entries = c.self.invariant.entries;
-  counts = c.hold_one.ensures.stands (made_by c.self.inside.groups.entries.items) c.self.invariant.counts;
-}
+invariant_of-self c =
+    let groups = c.self.inside.groups in
+    let kept = c.self.invariant in
+    record {
+      keys = kept.keys;
+      shown = kept.shown;
+      within = kept.within;
+      marks = kept.marks;
+      stand_in =
+          hold-keeps c.hold_one.result c.self.inside.engine groups.given.numbers (made_by groups.entries.items) groups.counts.items c.hold_one.new.counts.items c.args.party c.args.number
+          kept.keys.rising (names_older groups.entries.items groups.given.numbers kept.keys) kept.stand_in
+          (subst (λ (registry : Registry). c.args.party < registry.engine.limits.parties) (sym c.self.view_is) c.requires)
+          c.hold_one.ensures.allowed c.hold_one.ensures.err;
+    }
 
 pub returns-clause-sound : goal.returns-clause-sound
-returns-clause-sound c =
-    sound c.self.inside.engine (record c.self.inside.groups { counts = c.hold_one.new.counts })
-    (record {
-      entries = c.self.invariant.entries;
-      counts = c.hold_one.ensures.stands (made_by c.self.inside.groups.entries.items) c.self.invariant.counts;
-    })
+returns-clause-sound c = sound c.self.inside.engine (record c.self.inside.groups { counts = c.hold_one.new.counts }) (invariant_of-self c)

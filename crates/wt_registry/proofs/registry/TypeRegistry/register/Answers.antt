@@ -1,47 +1,81 @@
--- the registry before and after are those of the fields
-use Rattle.std.proofs.Common.{◌≡◌, ℕ, List, [], ◌∷◌, Some, Result, Ok, Err, IfOk, subst}
-use Rattle.wt_env.specs.declared.types.VMSharedTypeIndex.{VMSharedTypeIndex}
-use Rattle.wt_env.specs.declared.types.WasmSubType.{WasmSubType}
-use Rattle.wt_registry.specs.declared.refusal.BuildRefusal.{BuildRefusal}
-use Rattle.wt_registry.specs.declared.refusal.BuildRefusal.TheVariants as refusals
-use Rattle.wt_registry.specs.declared.refusal.Full.{Full}
-use Rattle.wt_registry.specs.Registry.{Made, Registry, describe, registered, closed_tree, tree_of}
+-- a plan of one key, carried out
+use Rattle.std.proofs.Common.{◌≡◌, [], ◌∷◌, ◌++◌, slice_get, Some, Err, sym, ap, subst, ◌∙◌}
+use Rattle.std.specs.Result.{IsErrAnd}
+use Rattle.wt_registry.specs.Counts.{standings_of}
+use Rattle.wt_registry.specs.Planned.{plan_of}
 use Rattle.wt_registry.specs.Sound.{IsSound}
-use Rattle.wt_registry.specs.Entries.{made_by, registry_at, entered_as}
-use Rattle.wt_registry.proofs.Kept.{sound}
+use Rattle.wt_registry.specs.Entries.{made_by}
+use Rattle.wt_registry.proofs.OnePlanned.{IsPlanned, is_planned, plain-named, one-occurs, register-full, first-number, first-place, registers, named, is_at, grows}
+use Rattle.wt_registry.proofs.Soundness.{sound}
 use Rattle.wt_registry.proofs.registry.TypeRegistry.register.Goals as goal
-
-abbrev Registers : Result (ℕ × VMSharedTypeIndex) BuildRefusal → ℕ → Registry → Registry → List WasmSubType → Type 0
-Registers result party new old types = IfOk result (λ entered. registered old party (describe old.made types) ≡ Ok (entered_as entered.0 (describe old.made types) entered.1, new))
-
-abbrev IsFull : Result (ℕ × VMSharedTypeIndex) BuildRefusal → ℕ → Registry → List WasmSubType → Type 0
-IsFull result party old types = (full : Full) → result ≡ Err (refusals.Full full) → registered old party (describe old.made types) ≡ Err full
-
-abbrev Names : Result (ℕ × VMSharedTypeIndex) BuildRefusal → List Made → List Made → List WasmSubType → Type 0
-Names result new old types = IfOk result (λ entered. closed_tree new entered.1 ≡ Some (record { tree = tree_of old types; place = 0 }))
 
 pub returns-in_err-one-clause-sound : goal.returns-in_err-one-clause-sound
 returns-in_err-one-clause-sound c = subst IsSound c.self.view_is (sound c.self.inside.engine c.self.inside.groups c.self.invariant)
 
+pub plan_key-requires-clause-named : goal.plan_key-requires-clause-named
+plan_key-requires-clause-named c = plain-named (made_by (c.as_slice.result.now ++ c.new-plan.result.added.items)) c.in_ok-one.field-0 c.args.ty c.requires.plain c.in_ok-one.ensures
+
+pub returns-in_err-plan_key-clause-sound : goal.returns-in_err-plan_key-clause-sound
+returns-in_err-plan_key-clause-sound c = subst IsSound c.self.view_is (sound c.self.inside.engine c.self.inside.groups c.self.invariant)
+
+pub carry_out-requires-clause-occurs : goal.carry_out-requires-clause-occurs
+carry_out-requires-clause-occurs c =
+    let groups = c.self.inside.groups in
+    let planned =
+    is_planned c.self.inside.engine groups c.as_slice.result.now c.new-plan.result c.plan_key.new.plan c.in_ok-one.field-0 c.args.self.now c.args.ty
+    c.as_slice.ensures.value c.in_ok-one.ensures c.self.view_is c.new-plan.ensures.added c.new-plan.ensures.given c.new-plan.ensures.numbers c.new-plan.ensures.map
+    (c.in_ok-plan_key.ensures.ok c.self.inside.engine (standings_of groups.counts.items)) c.in_ok-plan_key.ensures.keys c.in_ok-plan_key.ensures.one in
+    one-occurs groups.entries.items groups.given.numbers c.plan_key.new.plan (c.args.ty ∷ []) planned.one
+
+pub returns-in_err-numbers-clause-full : goal.returns-in_err-numbers-clause-full
+returns-in_err-numbers-clause-full c = λ full told.
+    let same = subst (λ answer. IsErrAnd answer (λ refusal. refusal ≡ c.in_err-numbers.field-0.0)) told c.from_residual-in_err-numbers.ensures.1 in
+    let groups = c.self.inside.groups in
+    let planned =
+    is_planned c.self.inside.engine groups c.as_slice.result.now c.new-plan.result c.plan_key.new.plan c.in_ok-one.field-0 c.args.self.now c.args.ty
+    c.as_slice.ensures.value c.in_ok-one.ensures c.self.view_is c.new-plan.ensures.added c.new-plan.ensures.given c.new-plan.ensures.numbers c.new-plan.ensures.map
+    (c.in_ok-plan_key.ensures.ok c.self.inside.engine (standings_of groups.counts.items)) c.in_ok-plan_key.ensures.keys c.in_ok-plan_key.ensures.one in
+    register-full c.args.self.now c.args.party c.args.ty (plan_of c.self.inside.engine groups.entries.items (standings_of groups.counts.items) c.plan_key.new.plan) full planned.planned
+    (c.carry_out.ensures.full full (c.in_err-numbers.was ∙ ap Err (sym same)))
+
+pub returns-in_err-numbers-clause-sound : goal.returns-in_err-numbers-clause-sound
+returns-in_err-numbers-clause-sound c = sound c.self.inside.engine c.carry_out.new.groups c.carry_out.ensures.kept
+
+facts : (c : goal.After-drop-numbers) → IsPlanned c.self.inside.engine c.self.inside.groups c.plan_key.new.plan c.args.self.now c.args.ty
+facts c =
+    is_planned c.self.inside.engine c.self.inside.groups c.as_slice.result.now c.new-plan.result c.plan_key.new.plan c.in_ok-one.field-0 c.args.self.now c.args.ty
+    c.as_slice.ensures.value c.in_ok-one.ensures c.self.view_is c.new-plan.ensures.added c.new-plan.ensures.given c.new-plan.ensures.numbers c.new-plan.ensures.map
+    (c.in_ok-plan_key.ensures.ok c.self.inside.engine (standings_of c.self.inside.groups.counts.items)) c.in_ok-plan_key.ensures.keys c.in_ok-plan_key.ensures.one
+
+number_read : (c : goal.After-drop-numbers) → slice_get c.plan_key.new.plan.numbers.items 0 ≡ Some c.index.result.now
+number_read c =
+    first-number c.self.inside.engine c.self.inside.groups c.plan_key.new.plan c.args.self.now c.args.ty (facts c)
+    c.in_ok-numbers.numbers.items c.index.result.now c.in_ok-numbers.ensures.numbers c.index.ensures
+
+index_read : (c : goal.After-drop-numbers) → slice_get c.plan_key.new.plan.map.items 0 ≡ Some c.index-2.result.now
+index_read c =
+    first-place c.self.inside.engine c.self.inside.groups c.plan_key.new.plan c.args.self.now c.args.ty (facts c)
+    c.in_ok-numbers.map.items c.index-2.result.now c.in_ok-numbers.ensures.map c.index-2.ensures
+
 pub returns-clause-ok : goal.returns-clause-ok
 returns-clause-ok c =
-    let old = registry_at c.self.inside.engine c.self.inside.groups in
-    let new = registry_at c.self.inside.engine c.register_group.new.groups in
-    let one = subst (Registers c.register_group.result c.args.party new old) c.in_ok-one.ensures c.register_group.ensures.ok in
-    subst (λ registry. Registers c.register_group.result c.args.party new registry (c.args.ty ∷ [])) c.self.view_is one
-
-pub returns-clause-full : goal.returns-clause-full
-returns-clause-full c =
-    let old = registry_at c.self.inside.engine c.self.inside.groups in
-    let one = subst (IsFull c.register_group.result c.args.party old) c.in_ok-one.ensures c.register_group.ensures.full in
-    subst (λ registry. IsFull c.register_group.result c.args.party registry (c.args.ty ∷ [])) c.self.view_is one
+    registers c.self.inside.engine c.self.inside.groups c.plan_key.new.plan c.args.self.now c.args.ty (facts c) c.self.invariant c.self.view_is c.carry_out.new.groups c.args.party
+    c.index.result.now c.index-2.result.now c.in_ok-numbers.ensures.ok (number_read c) (index_read c)
 
 pub returns-clause-named : goal.returns-clause-named
 returns-clause-named c =
-    let old = made_by c.self.inside.groups.entries.items in
-    let new = made_by c.register_group.new.groups.entries.items in
-    let one = subst (Names c.register_group.result new old) c.in_ok-one.ensures c.register_group.ensures.named in
-    subst (λ (registry : Registry). Names c.register_group.result new registry.made (c.args.ty ∷ [])) c.self.view_is one
+    named c.self.inside.engine c.self.inside.groups c.plan_key.new.plan c.args.self.now c.args.ty (facts c) c.self.invariant c.self.view_is c.carry_out.new.groups c.args.party
+    c.index.result.now c.index-2.result.now c.in_ok-numbers.ensures.ok (number_read c) (index_read c)
+
+pub returns-clause-grows : goal.returns-clause-grows
+returns-clause-grows c =
+    grows c.self.inside.engine c.self.inside.groups c.plan_key.new.plan c.args.self.now c.args.ty (facts c) c.self.invariant c.self.view_is c.carry_out.new.groups c.args.party
+    c.index.result.now c.index-2.result.now c.in_ok-numbers.ensures.ok (number_read c) (index_read c) c.requires.party
+
+pub returns-clause-located : goal.returns-clause-located
+returns-clause-located c =
+    is_at c.self.inside.engine c.self.inside.groups c.plan_key.new.plan c.args.self.now c.args.ty (facts c) c.self.invariant c.self.view_is c.carry_out.new.groups c.args.party
+    c.index.result.now c.index-2.result.now c.in_ok-numbers.ensures.ok (number_read c) (index_read c)
 
 pub returns-clause-sound : goal.returns-clause-sound
-returns-clause-sound c = sound c.self.inside.engine c.register_group.new.groups c.register_group.ensures.kept
+returns-clause-sound c = sound c.self.inside.engine c.carry_out.new.groups c.carry_out.ensures.kept

@@ -1,0 +1,244 @@
+//! Rows of modules: what their registration answers, and what a release leaves.
+
+use super::*;
+use crate::refusal::{Place, Rule};
+use crate::registered_type::RegisteredType;
+use crate::validity::{are_countable, are_module_types};
+use std::process::Abort;
+use std::test::Fail;
+use wt_env::limits::{EngineLimits, Limit};
+use wt_env::types::{
+    EngineOrModuleTypeIndex, ModuleInternedTypeIndex, WasmCompositeInnerType, WasmFieldType,
+    WasmFuncType, WasmHeapType, WasmRefType, WasmStorageType, WasmStructType, WasmValType,
+};
+
+/// The final struct of one field, a reference to a struct of the module.
+fn structure(alloc: Global, mutable: bool, index: u32) -> Result<WasmSubType, OutOfMemory> {
+    let named = EngineOrModuleTypeIndex::Module(ModuleInternedTypeIndex(index));
+    let field = WasmFieldType {
+        element_type: WasmStorageType::Val(WasmValType::Ref(WasmRefType {
+            nullable: false,
+            heap_type: WasmHeapType::ConcreteStruct(named),
+        })),
+        mutable,
+    };
+    Ok(WasmSubType {
+        is_final: true,
+        supertype: None,
+        composite_type: WasmCompositeInnerType::Struct(WasmStructType {
+            fields: Seq::one(alloc, field)?,
+        }),
+    })
+}
+
+/// The final function without parameters and results.
+fn function(alloc: Global) -> WasmSubType {
+    WasmSubType {
+        is_final: true,
+        supertype: None,
+        composite_type: WasmCompositeInnerType::Func(WasmFuncType {
+            params: Seq::new(alloc),
+            results: Seq::new(alloc),
+        }),
+    }
+}
+
+/// A group of one type.
+fn alone(alloc: Global, ty: WasmSubType) -> Result<WasmRecGroup, OutOfMemory> {
+    Ok(WasmRecGroup {
+        types: Seq::one(alloc, ty)?,
+    })
+}
+
+/// A group of two types.
+fn pair(
+    alloc: Global,
+    first: WasmSubType,
+    second: WasmSubType,
+) -> Result<WasmRecGroup, OutOfMemory> {
+    let mut types = Seq::one(alloc, first)?;
+    types.push(second)?;
+    Ok(WasmRecGroup { types })
+}
+
+/// A module of one group.
+fn one_group(alloc: Global, group: WasmRecGroup) -> Result<ModuleTypes, OutOfMemory> {
+    Ok(ModuleTypes {
+        groups: Seq::one(alloc, group)?,
+    })
+}
+
+/// A module of two groups.
+fn two_groups(
+    alloc: Global,
+    first: WasmRecGroup,
+    second: WasmRecGroup,
+) -> Result<ModuleTypes, OutOfMemory> {
+    let mut groups = Seq::one(alloc, first)?;
+    groups.push(second)?;
+    Ok(ModuleTypes { groups })
+}
+
+fn has_indices(rt: &impl Abort, types: &TypeCollection, indices: &[u32]) {
+    let map = types.as_module_map();
+    assert_eq!(rt; map.len(), indices.len());
+    for (place, index) in indices.iter().enumerate() {
+        assert_eq!(rt; map[place].bits(), *index, "at {place}");
+    }
+}
+
+fn has_groups(rt: &impl Abort, registry: &TypeRegistry, numbers: &[u64]) {
+    let live = registry.live().expect(rt, "memory is left");
+    assert_eq!(rt; live.len(), numbers.len());
+    for (place, number) in numbers.iter().enumerate() {
+        assert_eq!(rt; live.as_slice()[place].number, *number, "at {place}");
+    }
+}
+
+#[test]
+fn mutual_groups_meet(rt: HostRuntime) -> Result<(), Fail> {
+    let alloc = rt.alloc();
+    let group = pair(
+        alloc,
+        structure(alloc, false, 1)?,
+        structure(alloc, true, 0)?,
+    )?;
+    let types = one_group(alloc, group)?;
+    assert!(rt; are_countable(&types) && are_module_types(&types));
+    assert!(rt; EngineLimits::USUAL.valid());
+    let engine = Engine::new(1, EngineLimits::USUAL, true);
+    let mut registry = TypeRegistry::new(alloc, &engine);
+    let mut party = PartyNumber::new(0);
+    let first = registry
+        .register_module(&mut party, &types)
+        .expect(&rt, "a new group");
+    let again = registry
+        .register_module(&mut party, &types)
+        .expect(&rt, "the same group");
+    has_indices(&rt, &first, &[0, 1]);
+    has_indices(&rt, &again, &[0, 1]);
+    assert_eq!(rt;
+        again.shared_type(ModuleInternedTypeIndex(1)),
+        Some(VMSharedTypeIndex::new(1))
+    );
+    assert_eq!(rt; again.shared_type(ModuleInternedTypeIndex(2)), None);
+    has_groups(&rt, &registry, &[1]);
+    registry.release(&mut party, again);
+    has_groups(&rt, &registry, &[1]);
+    first.forget();
+    Ok(())
+}
+
+#[test]
+fn what_is_reached_stays(rt: HostRuntime) -> Result<(), Fail> {
+    let alloc = rt.alloc();
+    let first = alone(alloc, structure(alloc, false, 0)?)?;
+    let second = alone(alloc, structure(alloc, false, 0)?)?;
+    let types = two_groups(alloc, first, second)?;
+    assert!(rt; are_countable(&types) && are_module_types(&types));
+    assert!(rt; EngineLimits::USUAL.valid());
+    let engine = Engine::new(1, EngineLimits::USUAL, true);
+    let mut registry = TypeRegistry::new(alloc, &engine);
+    let mut party = PartyNumber::new(0);
+    let mut other = PartyNumber::new(1);
+    let module = registry
+        .register_module(&mut party, &types)
+        .expect(&rt, "two groups");
+    has_indices(&rt, &module, &[0, 1]);
+    let hold = RegisteredType::try_root(&mut registry, &mut other, VMSharedTypeIndex::new(1))
+        .expect(&rt, "no limit")
+        .expect(&rt, "it is registered");
+    let again = registry
+        .register_module(&mut party, &types)
+        .expect(&rt, "the same groups");
+    registry.release(&mut party, again);
+    has_groups(&rt, &registry, &[1, 2]);
+    hold.forget();
+    module.forget();
+    Ok(())
+}
+
+#[test]
+fn a_release_removes_at_once(rt: HostRuntime) -> Result<(), Fail> {
+    let alloc = rt.alloc();
+    let equal = two_groups(
+        alloc,
+        alone(alloc, function(alloc))?,
+        alone(alloc, function(alloc))?,
+    )?;
+    let members = one_group(alloc, pair(alloc, function(alloc), function(alloc))?)?;
+    assert!(rt; are_countable(&equal) && are_module_types(&equal));
+    assert!(rt; are_countable(&members) && are_module_types(&members));
+    assert!(rt; EngineLimits::USUAL.valid());
+    let engine = Engine::new(1, EngineLimits::USUAL, true);
+    let mut registry = TypeRegistry::new(alloc, &engine);
+    let mut party = PartyNumber::new(0);
+    let module = registry
+        .register_module(&mut party, &equal)
+        .expect(&rt, "one group twice");
+    has_indices(&rt, &module, &[0, 0]);
+    has_groups(&rt, &registry, &[1]);
+    registry.release(&mut party, module);
+    has_groups(&rt, &registry, &[]);
+    let module = registry
+        .register_module(&mut party, &members)
+        .expect(&rt, "one group of two types");
+    has_indices(&rt, &module, &[0, 1]);
+    has_groups(&rt, &registry, &[2]);
+    module.forget();
+    Ok(())
+}
+
+fn is_refused(
+    rt: &impl Abort,
+    answer: Result<TypeCollection, BuildRefusal>,
+    refusal: BuildRefusal,
+) {
+    match answer {
+        Ok(module) => {
+            module.forget();
+            assert!(rt; false, "it was taken");
+        }
+        Err(told) => assert_eq!(rt; told, refusal),
+    }
+}
+
+#[test]
+fn modules_are_refused(rt: HostRuntime) -> Result<(), Fail> {
+    let alloc = rt.alloc();
+    let later = one_group(alloc, alone(alloc, structure(alloc, false, 1)?)?)?;
+    let first = alone(alloc, structure(alloc, false, 0)?)?;
+    let second = alone(alloc, structure(alloc, false, 0)?)?;
+    let types = two_groups(alloc, first, second)?;
+    assert!(rt; are_countable(&later) && are_module_types(&later));
+    assert!(rt; are_countable(&types) && are_module_types(&types));
+    let limits = EngineLimits {
+        references: 0,
+        ..EngineLimits::USUAL
+    };
+    assert!(rt; limits.valid());
+    let mut party = PartyNumber::new(0);
+    let mut registry = TypeRegistry::new(alloc, &Engine::new(1, limits, true));
+    let broken = BuildRefusal::InvalidModule {
+        place: Place::Member {
+            group: 0,
+            member: 0,
+        },
+        rule: Rule::Forward,
+    };
+    is_refused(&rt, registry.register_module(&mut party, &later), broken);
+    let full = BuildRefusal::Full(Full {
+        limit: Limit::References,
+        bound: 0,
+        wanted: 1,
+    });
+    is_refused(&rt, registry.register_module(&mut party, &types), full);
+    has_groups(&rt, &registry, &[]);
+    let mut without = TypeRegistry::new(alloc, &Engine::new(2, limits, false));
+    is_refused(
+        &rt,
+        without.register_module(&mut party, &types),
+        BuildRefusal::NoGc,
+    );
+    Ok(())
+}
