@@ -5,12 +5,13 @@ use Rattle.std.specs.Option.{option_map_or}
 use Rattle.serde_json.specs.Data.{Data, Items, no_items, item}
 use Rattle.serde_json.specs.Events.{members_len}
 use Rattle.serde_json.specs.Find.{get, as_str, as_number, as_u64, as_array, as_object}
+use Rattle.wt_env.specs.DecodeGroups.{decode_groups}
 use Rattle.wt_session.specs.declared.command.HostVal.{HostVal}
 use Rattle.wt_session.specs.declared.command.HostVal.TheVariants.{I32, I64, F32, F64, V128}
 use Rattle.wt_session.specs.declared.command.HostSub.{HostSub}
 use Rattle.wt_session.specs.declared.command.HostSub.TheVariants.{Func}
 use Rattle.wt_session.specs.declared.command.Command.{Command}
-use Rattle.wt_session.specs.declared.command.Command.TheVariants.{HostType, Clone, Root, Drop, Sweep, Live}
+use Rattle.wt_session.specs.declared.command.Command.TheVariants.{HostType, Module, Clone, Root, Drop, Sweep, Release, Live}
 
 -- how many members an object has; none where the value is no object
 abbrev pub key_count : Data → ℕ
@@ -95,6 +96,13 @@ type_from by d = option_map (HostType by) (option_and_then decode_sub (get (code
 abbrev pub decode_type : Data → Option Command
 decode_type d = if own_key_count d == 2 then option_and_then (λ by. type_from by d) (decode_by d) else None
 
+-- {"do": "module", "groups": the recursion groups}
+abbrev pub module_from : ℕ → Data → Option Command
+module_from by d = option_map (Module by) (option_and_then decode_groups (get (codes "groups") d))
+
+abbrev pub decode_module : Data → Option Command
+decode_module d = if own_key_count d == 2 then option_and_then (λ by. module_from by d) (decode_by d) else None
+
 -- the party and the number under this key, of an object with no other key but `do` and maybe `by`
 abbrev pub by_and_word : List ℕ → Data → Option (ℕ × ℕ)
 by_and_word key d =
@@ -118,15 +126,21 @@ decode_drop d = option_map (λ words. Drop words.0 words.1) (by_and_word (codes 
 abbrev pub decode_sweep : Data → Option Command
 decode_sweep d = option_map (λ words. Sweep words.0 words.1) (by_and_word (codes "handle") d)
 
+-- {"do": "release", "handle": a number}
+abbrev pub decode_release : Data → Option Command
+decode_release d = option_map (λ words. Release words.0 words.1) (by_and_word (codes "handle") d)
+
 -- the command of an object whose key `do` has this word
 abbrev pub command_called : List ℕ → Data → Option Command
 command_called word d =
     if bytes_eq word (codes "live") then decode_live d else (
     if bytes_eq word (codes "type") then decode_type d else (
+    if bytes_eq word (codes "module") then decode_module d else (
     if bytes_eq word (codes "clone") then decode_clone d else (
     if bytes_eq word (codes "root") then decode_root d else (
     if bytes_eq word (codes "drop") then decode_drop d else (
-    if bytes_eq word (codes "sweep") then decode_sweep d else None)))))
+    if bytes_eq word (codes "sweep") then decode_sweep d else (
+    if bytes_eq word (codes "release") then decode_release d else None)))))))
 
 -- a command: an object whose key `do` says which
 abbrev pub decode_command : Data → Option Command

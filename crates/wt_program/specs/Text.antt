@@ -8,12 +8,16 @@ use Rattle.wt_registry.specs.declared.debt.Swept.{Swept}
 use Rattle.wt_registry.specs.declared.debt.Swept.TheVariants.{Removed, Kept, Gone}
 use Rattle.wt_registry.specs.declared.live.LiveGroup.{LiveGroup}
 use Rattle.wt_registry.specs.declared.refusal.Full.{Full}
+use Rattle.wt_registry.specs.declared.refusal.Place.{Place}
+use Rattle.wt_registry.specs.declared.refusal.Place.TheVariants.{Member}
+use Rattle.wt_registry.specs.declared.refusal.Rule.{Rule}
+use Rattle.wt_registry.specs.declared.refusal.Rule.TheVariants.{Forward, Kind}
 use Rattle.wt_session.specs.declared.reply.HandleKind.{HandleKind}
 use Rattle.wt_session.specs.declared.reply.HandleKind.TheVariants as kinds
 use Rattle.wt_session.specs.declared.reply.Refusal.{Refusal}
 use Rattle.wt_session.specs.declared.reply.Refusal.TheVariants as refusals
 use Rattle.wt_session.specs.declared.reply.Reply.{Reply}
-use Rattle.wt_session.specs.declared.reply.Reply.TheVariants.{TypeMade, NoneFound, Owed, Dropped, Swept as SweptReply, Live, Refused}
+use Rattle.wt_session.specs.declared.reply.Reply.TheVariants.{TypeMade, Module, NoneFound, Owed, Dropped, Swept as SweptReply, Released, Live, Refused}
 
 abbrev pub line_feed : List ℕ
 line_feed = 10 ∷ []
@@ -46,15 +50,27 @@ full_text full = codes "Full: " ++ limit_word full.limit ++ codes " " ++ decimal
 abbrev pub kind_word : HandleKind → List ℕ
 kind_word kinds.Type = codes "type"
 kind_word kinds.Debt = codes "debt"
+kind_word kinds.Module = codes "module"
 
 -- `NoSuchHandle: party 0 has no type 1`
 abbrev pub no_such_handle_text : ℕ → HandleKind → ℕ → List ℕ
 no_such_handle_text party kind handle =
     codes "NoSuchHandle: party " ++ decimal party ++ codes " has no " ++ kind_word kind ++ codes " " ++ decimal handle
 
+abbrev pub rule_word : Rule → List ℕ
+rule_word Forward = codes "forward"
+rule_word Kind = codes "kind"
+
+-- `InvalidModule: group 0 member 1: forward`
+abbrev pub invalid_module_text : Place → Rule → List ℕ
+invalid_module_text (Member group member) rule =
+    codes "InvalidModule: group " ++ decimal group ++ codes " member " ++ decimal member ++ codes ": " ++ rule_word rule
+
 -- the code of a refusal, and what was refused
 abbrev pub refusal_text : Refusal → List ℕ
 refusal_text (refusals.Full full) = full_text full
+refusal_text (refusals.InvalidModule place rule) = invalid_module_text place rule
+refusal_text refusals.NoGc = codes "NoGc: cannot define this type without a GC runtime enabled"
 refusal_text (refusals.NoSuchHandle party kind handle) = no_such_handle_text party kind handle
 
 -- a line of one word
@@ -66,6 +82,10 @@ swept_line (Removed count) = codes "removed " ++ decimal count ++ line_feed
 swept_line Kept = word_line (codes "kept")
 swept_line Gone = word_line (codes "gone")
 
+-- `module 0 indices 0 1`
+abbrev pub module_line : ℕ → List ℕ → List ℕ
+module_line handle indices = codes "module " ++ decimal handle ++ codes " indices" ++ flat_map later_index_text indices ++ line_feed
+
 abbrev pub live_line : List LiveGroup → List ℕ
 live_line groups = codes "live " ++ decimal (length groups) ++ flat_map group_text groups ++ line_feed
 
@@ -75,10 +95,12 @@ refused_line refusal = codes "refused " ++ refusal_text refusal ++ line_feed
 -- the line of a reply
 abbrev pub line_of : Reply → List ℕ
 line_of (TypeMade handle index) = codes "type " ++ decimal handle ++ codes " index " ++ decimal index ++ line_feed
+line_of (Module handle indices) = module_line handle indices
 line_of NoneFound = word_line (codes "none")
 line_of Owed = word_line (codes "owed")
 line_of Dropped = word_line (codes "dropped")
 line_of (SweptReply swept) = swept_line swept
+line_of Released = word_line (codes "released")
 line_of (Live groups) = live_line groups
 line_of (Refused refusal) = refused_line refusal
 

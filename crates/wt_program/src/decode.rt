@@ -3,13 +3,14 @@
 
 ghost use Rattle.std.specs.Prelude.{◌≡◌, Ok, Err, IfOk};
 ghost use Rattle.serde_json.specs.View.{view, items_view};
-ghost use Rattle.wt_program.specs.Decode.{key_count, own_key_count, word_of, decode_word, decode_word_at, decode_by, by_and_word, type_from, val_named, decode_val, vals_of, decode_vals, func_from, decode_func, decode_sub, decode_live, decode_type, decode_clone, decode_root, decode_drop, decode_sweep, decode_command, decode_commands, decode};
+ghost use Rattle.wt_program.specs.Decode.{key_count, own_key_count, word_of, decode_word, decode_word_at, decode_by, by_and_word, type_from, val_named, decode_val, vals_of, decode_vals, func_from, decode_func, decode_sub, decode_live, decode_type, module_from, decode_module, decode_clone, decode_root, decode_drop, decode_sweep, decode_release, decode_command, decode_commands, decode};
 ghost use Rattle.wt_program.specs.declared.decode.DecodeError.{DecodeError};
 
 use serde_json::Value;
 use std::alloc::{AllocFailed, Global};
 use std::error::Error;
 use std::fmt;
+use wt_env::decode_groups::decode_groups;
 use wt_env::memory::OutOfMemory;
 use wt_env::seq::Seq;
 use wt_session::command::{Command, HostSub, HostVal};
@@ -95,10 +96,12 @@ fn decode_command(alloc: Global, value: &Value) -> Result<Option<Command>, OutOf
     match value.get("do").and_then(Value::as_str) {
         Some("live") => Ok(decode_live(value)),
         Some("type") => decode_type(alloc, value),
+        Some("module") => decode_module(alloc, value),
         Some("clone") => Ok(decode_clone(value)),
         Some("root") => Ok(decode_root(value)),
         Some("drop") => Ok(decode_drop(value)),
         Some("sweep") => Ok(decode_sweep(value)),
+        Some("release") => Ok(decode_release(value)),
         _ => Ok(None),
     }
 }
@@ -136,6 +139,29 @@ fn type_from(alloc: Global, by: u32, value: &Value) -> Result<Option<Command>, O
     Ok(decode_sub(alloc, sub)?.map(|sub| Command::HostType { by, sub }))
 }
 
+/// `{"do": "module", "groups": the recursion groups}`.
+fn decode_module(alloc: Global, value: &Value) -> Result<Option<Command>, OutOfMemory>
+    ensures { IfOk result (λ command. command ≡ decode_module (view value.now)) }
+{
+    if own_key_count(value) != 2 {
+        return Ok(None);
+    }
+    match decode_by(value) {
+        Some(by) => module_from(alloc, by, value),
+        None => Ok(None),
+    }
+}
+
+/// The registration of a module by this party.
+fn module_from(alloc: Global, by: u32, value: &Value) -> Result<Option<Command>, OutOfMemory>
+    ensures { IfOk result (λ command. command ≡ module_from by (view value.now)) }
+{
+    let Some(groups) = value.get("groups") else {
+        return Ok(None);
+    };
+    Ok(decode_groups(alloc, groups)?.map(|groups| Command::Module { by, groups }))
+}
+
 /// `{"do": "clone", "handle": a number}`.
 fn decode_clone(value: &Value) -> Option<Command>
     ensures { result ≡ decode_clone (view value.now) }
@@ -162,6 +188,13 @@ fn decode_sweep(value: &Value) -> Option<Command>
     ensures { result ≡ decode_sweep (view value.now) }
 {
     by_and_word(value, "handle").map(|(by, handle)| Command::Sweep { by, handle })
+}
+
+/// `{"do": "release", "handle": a number}`.
+fn decode_release(value: &Value) -> Option<Command>
+    ensures { result ≡ decode_release (view value.now) }
+{
+    by_and_word(value, "handle").map(|(by, handle)| Command::Release { by, handle })
 }
 
 /// The party and the number under this key, of an object with no other key but `do` and maybe `by`.

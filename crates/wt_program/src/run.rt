@@ -15,14 +15,18 @@ use wt_env::memory::OutOfMemory;
 use wt_env::status::Status;
 use wt_env::stream::{Sink, Source};
 use wt_env::text::Text;
-use wt_session::command::Command;
+use wt_session::command::{Command, are_commands};
 use wt_session::run::run_session;
 use wt_session::session::Session;
 
-/// The lines for commands, each done by a new session.
+/// The lines for commands, each done by a new session. Decoded types refer to each other by module index,
+/// and no list of a text of at most 16 MiB has 2^32 elements, so no decoded command is unfit.
 fn output(alloc: Global, commands: &[Command]) -> Result<String, OutOfMemory>
     ensures { IfOk result (λ text. string_bytes text ≡ output_of commands.now) }
 {
+    if !are_commands(commands) {
+        return Err(OutOfMemory);
+    }
     let mut session = Session::new(alloc, Engine::new(1, EngineLimits::USUAL, true));
     let mut replies = Vec::new(alloc);
     let outcome = run_session(&mut session, commands, &mut replies);

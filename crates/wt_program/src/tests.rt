@@ -1,7 +1,9 @@
 //! Rows of the program: what it answers and writes, over sources and sinks in memory.
 
+use crate::decode::decode;
 use crate::read::LIMIT;
 use crate::run::run;
+use serde_json::Value;
 use std::alloc::Global;
 use std::test::Fail;
 use wt_env::limits::{Engine, EngineLimits, Limit};
@@ -11,7 +13,7 @@ use wt_env::seq::Seq;
 use wt_env::status::Status;
 use wt_env::text::Text;
 use wt_registry::refusal::Full;
-use wt_session::command::{Command, HostSub, HostVal};
+use wt_session::command::{Command, HostSub, HostVal, are_commands};
 use wt_session::reply::{Refusal, Reply};
 use wt_session::run::run_session;
 use wt_session::session::Session;
@@ -184,6 +186,134 @@ fn answers_on_handles(rt: HostRuntime) -> Result<(), Fail> {
     Ok(())
 }
 
+/// Mutually recursive groups that are equal meet, member by member.
+const MUTUAL_TWICE: (&str, &str) = (
+    r#"[
+        {"do":"module","groups":[[{"struct":[{"ref":{"struct":1}}]},{"struct":[{"mut":{"ref":{"struct":0}}}]}]]},
+        {"do":"module","by":1,"groups":[[{"struct":[{"ref":{"struct":1}}]},{"struct":[{"mut":{"ref":{"struct":0}}}]}]]},
+        {"do":"live"},
+        {"do":"release","handle":0},
+        {"do":"live"},
+        {"do":"release","by":1,"handle":0},
+        {"do":"live"}
+    ]"#,
+    "module 0 indices 0 1\nmodule 0 indices 0 1\nlive 1 #1[0 1]\nreleased\nlive 1 #1[0 1]\nreleased\nlive 0\n",
+);
+
+/// A group stays while one that is held names it, and goes with that one.
+const KEPT_BY_A_ROOT: (&str, &str) = (
+    r#"[
+        {"do":"module","groups":[[{"struct":[{"ref":{"struct":0}}]}],[{"struct":[{"ref":{"struct":0}}]}]]},
+        {"do":"root","index":1},
+        {"do":"release","handle":0},
+        {"do":"live"},
+        {"do":"drop","handle":1},
+        {"do":"sweep","handle":1},
+        {"do":"live"}
+    ]"#,
+    "module 0 indices 0 1\ntype 1 index 1\nreleased\nlive 2 #1[0] #2[1]\nowed\nremoved 2\nlive 0\n",
+);
+
+/// A type refers to none after its group.
+const FORWARD: (&str, &str) = (
+    r#"[{"do":"module","groups":[[{"struct":[{"ref":{"struct":1}}]}]]},{"do":"live"}]"#,
+    "refused InvalidModule: group 0 member 0: forward\nlive 0\n",
+);
+
+/// A reference says which kind its type is.
+const ANOTHER_KIND: (&str, &str) = (
+    r#"[{"do":"module","groups":[[{"func":[[],[]]},{"struct":[{"ref":{"struct":0}}]}]]},{"do":"live"}]"#,
+    "refused InvalidModule: group 0 member 1: kind\nlive 0\n",
+);
+
+/// Equal groups of one module meet, and it holds the group once for each.
+const ONE_GROUP_TWICE: (&str, &str) = (
+    r#"[
+        {"do":"module","groups":[[{"func":[[],[]]}],[{"func":[[],[]]}]]},
+        {"do":"live"},
+        {"do":"release","handle":0},
+        {"do":"live"}
+    ]"#,
+    "module 0 indices 0 0\nlive 1 #1[0]\nreleased\nlive 0\n",
+);
+
+/// Equal members of one group are two types.
+const ONE_MEMBER_TWICE: (&str, &str) = (
+    r#"[{"do":"module","groups":[[{"func":[[],[]]},{"func":[[],[]]}]]},{"do":"live"}]"#,
+    "module 0 indices 0 1\nlive 1 #1[0 1]\n",
+);
+
+/// A module's handle is no type, and a released one is no module. A module without groups is one.
+const HANDLES_ON_MODULES: (&str, &str) = (
+    r#"[
+        {"do":"module","groups":[]},
+        {"do":"drop","handle":0},
+        {"do":"release","by":1,"handle":0},
+        {"do":"release","handle":0},
+        {"do":"release","handle":0},
+        {"do":"sweep","handle":0}
+    ]"#,
+    "module 0 indices\nrefused NoSuchHandle: party 0 has no type 0\nrefused NoSuchHandle: party 1 has no module 0\nreleased\nrefused NoSuchHandle: party 0 has no module 0\nrefused NoSuchHandle: party 0 has no debt 0\n",
+);
+
+#[test]
+fn answers_on_modules(rt: HostRuntime) -> Result<(), Fail> {
+    let rows = [
+        MUTUAL_TWICE,
+        KEPT_BY_A_ROOT,
+        FORWARD,
+        ANOTHER_KIND,
+        ONE_GROUP_TWICE,
+        ONE_MEMBER_TWICE,
+        HANDLES_ON_MODULES,
+    ];
+    for (input, output) in rows {
+        let (answered, written) = outcome(rt.alloc(), "run", input, &[], &[])?;
+        assert_eq!(rt; answered, Status::Done, "on {input}");
+        assert_eq!(rt; written.as_slice(), output.as_bytes(), "on {input}");
+    }
+    Ok(())
+}
+
+#[test]
+fn refuses_other_modules(rt: HostRuntime) -> Result<(), Fail> {
+    let rows = [
+        r#"[{"do":"module"}]"#,
+        r#"[{"do":"module","groups":{}}]"#,
+        r#"[{"do":"module","groups":[{"func":[[],[]]}]}]"#,
+        r#"[{"do":"module","groups":[[{"func":[[],[]],"x":1}]]}]"#,
+        r#"[{"do":"module","groups":[],"x":1}]"#,
+        r#"[{"do":"release","handle":-1}]"#,
+        r#"[{"do":"release"}]"#,
+    ];
+    for input in rows {
+        let (answered, written) = outcome(rt.alloc(), "run", input, &[], &[])?;
+        assert_eq!(rt; answered, Status::BadCommand(1), "on {input}");
+        assert_eq!(rt; written.as_slice(), "".as_bytes(), "on {input}");
+    }
+    Ok(())
+}
+
+/// Without garbage collection a module has functions alone.
+#[test]
+fn refuses_structs_without_gc(rt: HostRuntime) -> Result<(), Fail> {
+    let alloc = rt.alloc();
+    let text = r#"[{"do":"module","groups":[[{"func":[[],[]]}],[{"struct":[]}]]},{"do":"live"}]"#;
+    let commands = decode(alloc, &Value::from_str(alloc, text)?)?;
+    let mut replies = Vec::new(alloc);
+    let mut session = Session::new(alloc, Engine::new(1, EngineLimits::USUAL, false));
+    assert!(rt; are_commands(commands.as_slice()));
+    let answered = run_session(&mut session, commands.as_slice(), &mut replies);
+    session.close();
+    assert!(rt; answered.is_ok());
+    let lines = crate::text::text(alloc, replies.as_slice())?;
+    assert_eq!(rt;
+        lines.as_str(),
+        "refused NoGc: cannot define this type without a GC runtime enabled\nlive 0\n"
+    );
+    Ok(())
+}
+
 #[test]
 fn refuses_other_numbers(rt: HostRuntime) -> Result<(), Fail> {
     let rows = [
@@ -263,6 +393,7 @@ fn refuses_a_second_group(rt: HostRuntime) -> Result<(), Fail> {
     commands.push(registration(alloc, HostVal::I64)?)?;
     let mut replies = Vec::new(alloc);
     let mut session = Session::new(alloc, Engine::new(1, limits, true));
+    assert!(rt; are_commands(commands.as_slice()));
     let answered = run_session(&mut session, commands.as_slice(), &mut replies);
     session.close();
     assert!(rt; answered.is_ok());

@@ -1,14 +1,15 @@
 //! The reply lines.
 
 ghost use Rattle.std.specs.Prelude.{◌≡◌, ◌++◌, IfOk, OnOk, string_bytes};
-ghost use Rattle.wt_program.specs.Text.{limit_word, indices_text, group_text, word_line, swept_line, live_line, full_text, kind_word, no_such_handle_text, refused_line, line_of, text_of};
+ghost use Rattle.std.specs.List.{flat_map};
+ghost use Rattle.wt_program.specs.Text.{limit_word, indices_text, group_text, word_line, swept_line, live_line, full_text, kind_word, no_such_handle_text, rule_word, invalid_module_text, later_index_text, module_line, refusal_text, refused_line, line_of, text_of};
 
 use std::alloc::Global;
 use wt_env::limits::Limit;
 use wt_env::memory::OutOfMemory;
 use wt_registry::debt::Swept;
 use wt_registry::live::LiveGroup;
-use wt_registry::refusal::Full;
+use wt_registry::refusal::{Full, Place, Rule};
 use wt_session::reply::{HandleKind, Refusal, Reply};
 
 fn limit_word(limit: Limit) -> &'static str
@@ -65,6 +66,7 @@ fn kind_word(kind: HandleKind) -> &'static str
     match kind {
         HandleKind::Type => "type",
         HandleKind::Debt => "debt",
+        HandleKind::Module => "module",
     }
 }
 
@@ -81,6 +83,41 @@ fn push_no_such_handle(
     Ok(())
 }
 
+fn rule_word(rule: Rule) -> &'static str
+    ensures { result.now ≡ rule_word rule }
+{
+    match rule {
+        Rule::Forward => "forward",
+        Rule::Kind => "kind",
+    }
+}
+
+fn push_member(text: &mut String, group: u32, member: u32, rule: Rule) -> Result<(), OutOfMemory>
+    ensures { OnOk result (string_bytes text.new ≡ string_bytes text.old ++ invalid_module_text (Place.Member group member) rule) }
+{
+    let rule = rule_word(rule);
+    write!(text, "InvalidModule: group {group} member {member}: {rule}")?;
+    Ok(())
+}
+
+fn push_invalid_module(text: &mut String, place: Place, rule: Rule) -> Result<(), OutOfMemory>
+    ensures { OnOk result (string_bytes text.new ≡ string_bytes text.old ++ invalid_module_text place rule) }
+{
+    match place {
+        Place::Member { group, member } => push_member(text, group, member, rule),
+    }
+}
+
+/// Adds each index after a blank.
+fn push_later(text: &mut String, indices: &[u32]) -> Result<(), OutOfMemory>
+    ensures { OnOk result (string_bytes text.new ≡ string_bytes text.old ++ flat_map later_index_text indices.now) }
+{
+    for index in indices {
+        write!(text, " {index}")?;
+    }
+    Ok(())
+}
+
 fn push_indices(text: &mut String, indices: &[u32]) -> Result<(), OutOfMemory>
     ensures { OnOk result (string_bytes text.new ≡ string_bytes text.old ++ indices_text indices.now) }
 {
@@ -88,10 +125,7 @@ fn push_indices(text: &mut String, indices: &[u32]) -> Result<(), OutOfMemory>
         return Ok(());
     };
     write!(text, "{first}")?;
-    for index in rest {
-        write!(text, " {index}")?;
-    }
-    Ok(())
+    push_later(text, rest)
 }
 
 fn push_group(text: &mut String, group: &LiveGroup) -> Result<(), OutOfMemory>
@@ -100,6 +134,15 @@ fn push_group(text: &mut String, group: &LiveGroup) -> Result<(), OutOfMemory>
     write!(text, " #{}[", group.number)?;
     push_indices(text, group.indices.as_slice())?;
     text.push_str("]")?;
+    Ok(())
+}
+
+fn push_module(text: &mut String, handle: u64, indices: &[u32]) -> Result<(), OutOfMemory>
+    ensures { OnOk result (string_bytes text.new ≡ string_bytes text.old ++ module_line handle indices.now) }
+{
+    write!(text, "module {handle} indices")?;
+    push_later(text, indices)?;
+    text.push_str("\n")?;
     Ok(())
 }
 
@@ -114,18 +157,29 @@ fn push_live(text: &mut String, groups: &[LiveGroup]) -> Result<(), OutOfMemory>
     Ok(())
 }
 
-fn push_refused(text: &mut String, refusal: &Refusal) -> Result<(), OutOfMemory>
-    ensures { OnOk result (string_bytes text.new ≡ string_bytes text.old ++ refused_line refusal.now) }
+fn push_refusal(text: &mut String, refusal: &Refusal) -> Result<(), OutOfMemory>
+    ensures { OnOk result (string_bytes text.new ≡ string_bytes text.old ++ refusal_text refusal.now) }
 {
-    text.push_str("refused ")?;
     match refusal {
-        Refusal::Full(full) => push_full(text, *full)?,
+        Refusal::Full(full) => push_full(text, *full),
+        Refusal::InvalidModule { place, rule } => push_invalid_module(text, *place, *rule),
+        Refusal::NoGc => {
+            text.push_str("NoGc: cannot define this type without a GC runtime enabled")?;
+            Ok(())
+        }
         Refusal::NoSuchHandle {
             party,
             kind,
             handle,
-        } => push_no_such_handle(text, *party, *kind, *handle)?,
+        } => push_no_such_handle(text, *party, *kind, *handle),
     }
+}
+
+fn push_refused(text: &mut String, refusal: &Refusal) -> Result<(), OutOfMemory>
+    ensures { OnOk result (string_bytes text.new ≡ string_bytes text.old ++ refused_line refusal.now) }
+{
+    text.push_str("refused ")?;
+    push_refusal(text, refusal)?;
     text.push_str("\n")?;
     Ok(())
 }
@@ -136,10 +190,12 @@ fn push_line(text: &mut String, reply: &Reply) -> Result<(), OutOfMemory>
 {
     match reply {
         Reply::TypeMade { handle, index } => push_made(text, *handle, *index),
+        Reply::Module { handle, indices } => push_module(text, *handle, indices.as_slice()),
         Reply::NoneFound => push_word(text, "none"),
         Reply::Owed => push_word(text, "owed"),
         Reply::Dropped => push_word(text, "dropped"),
         Reply::Swept(swept) => push_swept(text, *swept),
+        Reply::Released => push_word(text, "released"),
         Reply::Live(groups) => push_live(text, groups.as_slice()),
         Reply::Refused(refusal) => push_refused(text, refusal),
     }

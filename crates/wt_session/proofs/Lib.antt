@@ -1,5 +1,7 @@
+pub mod Counted
 pub mod HandlesKept
 pub mod HostTypes
+pub mod ModuleReplies
 pub mod OneCommand
 pub mod Padding
 pub mod Places

@@ -35,10 +35,12 @@ named_at registry party kind kind' place place' h =
 unheld : (registry : Registry) (command : Command) (kind : HandleKind) (place : ℕ) → named_by command ≡ Some (kind, place)
     → outcome_of registry [] command ≡ record { reply = reply.Refused (refusal.NoSuchHandle (party_of command) kind place); registry = registry; row = [] }
 unheld registry (command.HostType by sub) kind place named = absurd (cc)
+unheld registry (command.Module by types) kind place named = absurd (cc)
 unheld registry (command.Clone by at) kind place named = named_at registry by kinds.Type kind at place named
 unheld registry (command.Root by index) kind place named = absurd (cc)
 unheld registry (command.Drop by at) kind place named = named_at registry by kinds.Type kind at place named
 unheld registry (command.Sweep by at) kind place named = named_at registry by kinds.Debt kind at place named
+unheld registry (command.Release by at) kind place named = named_at registry by kinds.Module kind at place named
 unheld registry (command.Live by) kind place named = absurd (cc)
 
 pub unheld-done : (registry : Registry) (rows : List (List Handle)) (party : ℕ) (command : Command) (kind : HandleKind) (place : ℕ) → party ≡ party_of command

@@ -106,6 +106,7 @@ others-kept old new party p own row keeps differs are = record {
   located = λ hold at.
       let held = subst (λ (n : ℕ). 1 ≤ n) (sym (are.counted hold.number)) (among-times hold.number (held_in row) (held-handle row hold at)) in
       keeps.spares.located hold.index p hold.number differs held (are.located hold at);
+  modules = λ types at. let was = are.modules types at in (ap (λ (e : EngineParts). e.number) keeps.spares.engine ∙ was.0, was.1);
 }
 
 pub kept-set : (old new : Registry) (rows : List (List Handle)) (party : ℕ) (row row' : List Handle) → slice_get rows party ≡ Some row → IsKept old rows → Keeps old new party row' → IsKept new (slice_set rows party row')

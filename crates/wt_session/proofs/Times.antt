@@ -1,10 +1,13 @@
 -- How often a number stands among those that handles hold.
-use Rattle.std.proofs.Common.{◌≡◌, ℕ, zero, suc, ◌+◌, ◌≤◌, ◌==◌, ◌⊎◌, inl, inr, Bool, true, false, cond, List, [], ◌∷◌, ◌++◌, slice_get, slice_set, Some, refl, sym, ap, ◌∙◌, subst, arith}
+use Rattle.std.proofs.Common.{◌≡◌, ℕ, zero, suc, ◌+◌, ◌<◌, ◌≤◌, ◌==◌, ◌⊎◌, inl, inr, Bool, true, false, cond, List, [], ◌∷◌, ◌++◌, length, get_or, slice_get, slice_set, Some, refl, sym, ap, ◌∙◌, subst, arith}
 use Rattle.std.proofs.lemmas.Grind.{flat_map-append}
+use Rattle.std.proofs.lemmas.List.{append-nil}
 use Rattle.wt_registry.specs.Registry.{Hold, Among}
+use Rattle.wt_registry.specs.Plan.{Collection, times}
+use Rattle.wt_session.specs.declared.command.Command.{Command}
 use Rattle.wt_session.specs.declared.handle.Handle.{Handle}
 use Rattle.wt_session.specs.declared.handle.Handle.TheVariants as handle
-use Rattle.wt_session.specs.World.{held_by, held_in, times}
+use Rattle.wt_session.specs.World.{held_by, held_in}
 
 -- ---- lists
 
@@ -25,6 +28,12 @@ among_either (y ∷ xs) ys x (inr later) = elim (among_either xs ys x later) [ i
 pub among_one : {A : Type 0} (x y : A) → Among x (y ∷ []) → x ≡ y
 among_one x y (inl same) = same
 among_one x y (inr none) = absurd none
+
+-- a command that is read is one of the list
+pub among_read : (commands : List Command) (n : ℕ) (command : Command) → n < length commands → command ≡ get_or commands n command → Among command commands
+among_read [] n command below is = absurd (omega arith)
+among_read (first ∷ commands) zero command below is = inl is
+among_read (first ∷ commands) (suc n) command below is = inr (among_read commands n command (omega arith) is)
 
 -- ---- how often
 
@@ -55,8 +64,11 @@ times-among n (x ∷ xs) some = by (x == n) refl some (times-among n xs)
 
 -- ---- one handle more, or another in its place
 
-pub times-pushed : (n : ℕ) (row : List Handle) (hold : Hold) → times n (held_in (row ++ handle.Type hold ∷ [])) ≡ times n (held_in row) + times n (hold.number ∷ [])
-times-pushed n row hold = ap (times n) (flat_map-append held_by row (handle.Type hold ∷ [])) ∙ times-append n (held_in row) (hold.number ∷ [])
+pub times-pushed : (n : ℕ) (row : List Handle) (new : Handle) → times n (held_in (row ++ new ∷ [])) ≡ times n (held_in row) + times n (held_by new)
+times-pushed n row new =
+    ap (times n) (flat_map-append held_by row (new ∷ []))
+    ∙ times-append n (held_in row) (held_by new ++ [])
+    ∙ ap (λ (held : List ℕ). times n (held_in row) + times n held) (append-nil (held_by new))
 
 same_handle : (a b : Handle) → Some a ≡ Some b → a ≡ b
 same_handle a b h = cc
@@ -98,3 +110,15 @@ pub got-among : (row : List Handle) (place : ℕ) (h : Handle) → slice_get row
 got-among [] place h is = absurd (cc)
 got-among (first ∷ row) zero h is = inl (sym (same_handle first h is))
 got-among (first ∷ row) (suc place) h is = inr (got-among row place h is)
+
+-- what a handle on a module holds, the party holds
+pub module-times : (n : ℕ) (row : List Handle) (types : Collection) → Among (handle.Module types) row → times n types.numbers ≤ times n (held_in row)
+module-times n [] types at = absurd at
+module-times n (h ∷ row) types (inl same) =
+    let here : times n (held_by h) ≡ times n types.numbers = ap (λ (first : Handle). times n (held_by first)) (sym same) in
+    let both = times-append n (held_by h) (held_in row) in
+    omega (arith, here, both)
+module-times n (h ∷ row) types (inr later) =
+    let rest = module-times n row types later in
+    let both = times-append n (held_by h) (held_in row) in
+    omega (arith, rest, both)

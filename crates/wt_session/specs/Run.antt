@@ -1,15 +1,19 @@
 -- What a session answers to commands, and what they change.
-use Rattle.std.specs.Prelude.{ℕ, ◌+◌, nat_lt, if◌then◌else◌, List, [], ◌∷◌, ◌++◌, length, map, slice_set, true, Option, Some, None, Result, Ok, Err}
+use Rattle.std.specs.Prelude.{ℕ, ◌+◌, nat_lt, ◌||◌, if◌then◌else◌, List, [], ◌∷◌, ◌++◌, length, map, slice_set, true, Option, Some, None, Result, Ok, Err}
 use Rattle.wt_env.specs.declared.types.WasmValType.{WasmValType}
 use Rattle.wt_env.specs.declared.types.WasmValType.TheVariants as val
 use Rattle.wt_env.specs.declared.types.WasmCompositeInnerType.TheVariants as shape
 use Rattle.wt_env.specs.declared.types.WasmSubType.{WasmSubType}
+use Rattle.wt_env.specs.declared.types.WasmRecGroup.{WasmRecGroup}
 use Rattle.wt_env.specs.declared.limits.Limit.TheVariants.{Parties}
 use Rattle.wt_registry.specs.declared.debt.Swept.{Swept}
 use Rattle.wt_registry.specs.declared.refusal.Full.{Full}
 use Rattle.wt_registry.specs.Registry.{Registry, Hold, root as rooted, hold as held}
-use Rattle.wt_registry.specs.Plan.{register}
-use Rattle.wt_registry.specs.Removal.{drop_hold as dropped, sweep_debt as swept}
+use Rattle.wt_registry.specs.declared.refusal.Place.{Place}
+use Rattle.wt_registry.specs.declared.refusal.Rule.{Rule}
+use Rattle.wt_registry.specs.Plan.{Collection, register, register_groups}
+use Rattle.wt_registry.specs.Validity.{first_broken, are_functions}
+use Rattle.wt_registry.specs.Removal.{drop_hold as dropped, sweep_debt as swept, release_holds}
 use Rattle.wt_registry.specs.Live.{live_of}
 use Rattle.wt_session.specs.declared.command.HostVal.{HostVal}
 use Rattle.wt_session.specs.declared.command.HostVal.TheVariants as host
@@ -24,7 +28,7 @@ use Rattle.wt_session.specs.declared.reply.Refusal.{Refusal}
 use Rattle.wt_session.specs.declared.reply.Refusal.TheVariants as refusal
 use Rattle.wt_session.specs.declared.reply.Reply.{Reply}
 use Rattle.wt_session.specs.declared.reply.Reply.TheVariants as reply
-use Rattle.wt_session.specs.World.{World, party_of, row_of, type_at, debt_at}
+use Rattle.wt_session.specs.World.{World, party_of, row_of, type_at, debt_at, module_at}
 
 -- a value type that the host names
 abbrev pub val_type_of : HostVal → WasmValType
@@ -95,13 +99,44 @@ abbrev pub debt_swept : Registry → List Handle → ℕ → ℕ → Option ℕ 
 debt_swept registry row party place (Some number) = debt_ended row place (swept registry number)
 debt_swept registry row party place None = refused registry row (refusal.NoSuchHandle party kind.Debt place)
 
+-- the registration of a module's groups
+abbrev pub module_made : List Handle → Result (Collection × Registry) Full → Registry → Outcome
+module_made row (Ok made) registry = record {
+  reply = reply.Module (length row) (map (λ i. i.0) made.0.map);
+  registry = made.1;
+  row = row ++ handle.Module made.0 ∷ [];
+}
+module_made row (Err full) registry = refused registry row (refusal.Full full)
+
+-- the same, where no rule is broken: an engine without garbage collection takes functions alone
+abbrev pub module_allowed : Registry → List Handle → ℕ → List WasmRecGroup → Outcome
+module_allowed registry row party groups =
+    if registry.engine.gc || are_functions groups
+    then module_made row (register_groups registry party groups) registry
+    else refused registry row refusal.NoGc
+
+abbrev pub module_checked : Registry → List Handle → ℕ → List WasmRecGroup → Option (Place × Rule) → Outcome
+module_checked registry row party groups (Some broken) = refused registry row (refusal.InvalidModule broken.0 broken.1)
+module_checked registry row party groups None = module_allowed registry row party groups
+
+-- the end of a handle on a module
+abbrev pub module_released : Registry → List Handle → ℕ → ℕ → Option Collection → Outcome
+module_released registry row party place (Some types) = record {
+  reply = reply.Released;
+  registry = release_holds registry party types.numbers;
+  row = slice_set row place handle.Ended;
+}
+module_released registry row party place None = refused registry row (refusal.NoSuchHandle party kind.Module place)
+
 -- What a command comes to, for a party below the limit that has these handles.
 abbrev pub outcome_of : Registry → List Handle → Command → Outcome
 outcome_of registry row (command.HostType by sub) = type_made registry row (register registry by (sub_type_of sub))
+outcome_of registry row (command.Module by types) = module_checked registry row by types.groups (first_broken types.groups)
 outcome_of registry row (command.Clone by place) = clone_made registry row by place (type_at row place)
 outcome_of registry row (command.Root by index) = root_made registry row (rooted registry by (record { 0 = index }))
 outcome_of registry row (command.Drop by place) = type_dropped registry row by place (type_at row place)
 outcome_of registry row (command.Sweep by place) = debt_swept registry row by place (debt_at row place)
+outcome_of registry row (command.Release by place) = module_released registry row by place (module_at row place)
 outcome_of registry row (command.Live by) = record { reply = reply.Live (live_of registry.made); registry = registry; row = row }
 
 -- ---- commands in turn

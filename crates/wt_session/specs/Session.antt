@@ -3,11 +3,12 @@ use Rattle.std.specs.Prelude.{◌≡◌, ◌≢◌, ℕ, ◌-◌, ◌≤◌, Lis
 use Rattle.wt_env.specs.Limits.{EngineParts}
 use Rattle.wt_env.specs.declared.types.VMSharedTypeIndex.{VMSharedTypeIndex}
 use Rattle.wt_registry.specs.Registry.{Registry, Hold, Among, number_of, held_at, empty_registry}
+use Rattle.wt_registry.specs.Plan.{Collection, times}
 use Rattle.wt_registry.specs.Sound.{IsSound}
 use Rattle.wt_session.specs.declared.handle.Handle.{Handle}
 use Rattle.wt_session.specs.declared.handle.Handle.TheVariants as handle
 use Rattle.wt_session.specs.declared.rows.Row.{Row}
-use Rattle.wt_session.specs.World.{World, no_counts, held_in, times, row_of}
+use Rattle.wt_session.specs.World.{World, no_counts, held_in, row_of}
 
 -- a session of the engine in which nothing was done
 abbrev pub new_world : EngineParts → World
@@ -32,13 +33,15 @@ world_of registry rows = record {
   counts = no_counts;
 }
 
--- A party's handles are its holds: it holds each group as often as handles hold it, and each handle on a type
--- is one of the engine and the party, with an index of its group.
+-- A party's handles are its holds: it holds each group as often as handles hold it; each handle on a type
+-- is one of the engine and the party, with an index of its group, and each handle on a module is one of the
+-- engine and the party.
 pub record AreHandles (registry : Registry) (party : ℕ) (row : List Handle) : Type 0 where
   pub counted : (number : ℕ) → held_at registry.standings party number ≡ times number (held_in row)
   pub engine : (hold : Hold) → Among (handle.Type hold) row → registry.engine.number ≡ hold.engine
   pub owner : (hold : Hold) → Among (handle.Type hold) row → hold.party ≡ party
   pub located : (hold : Hold) → Among (handle.Type hold) row → number_of registry.made hold.index ≡ Some hold.number
+  pub modules : (types : Collection) → Among (handle.Module types) row → (registry.engine.number ≡ types.engine) × (types.party ≡ party)
 
 -- a registry that is kept true for the parties that have these handles
 pub record IsKept (registry : Registry) (rows : List (List Handle)) : Type 0 where

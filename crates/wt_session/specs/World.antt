@@ -2,6 +2,8 @@
 use Rattle.std.specs.Prelude.{◌≡◌, ℕ, ◌+◌, ◌==◌, zero, suc, if◌then◌else◌, List, [], ◌∷◌, ◌++◌, slice_get, Bool, true, false, Option, Some, None}
 use Rattle.std.specs.List.{flat_map}
 use Rattle.wt_registry.specs.Registry.{Made, Registry, Hold, Among, waiting}
+use Rattle.wt_registry.specs.Plan.{Collection}
+use Rattle.wt_registry.specs.Validity.{AreCountable, AreModuleTypes}
 use Rattle.wt_registry.specs.Sound.{IsRising}
 use Rattle.wt_registry.specs.Reach.{Reach}
 use Rattle.wt_session.specs.declared.command.Command.{Command}
@@ -30,31 +32,37 @@ no_counts = record { stores = 0; modules = 0; components = 0; component_instance
 -- the party whose command it is
 abbrev pub party_of : Command → ℕ
 party_of (command.HostType by sub) = by
+party_of (command.Module by types) = by
 party_of (command.Clone by place) = by
 party_of (command.Root by index) = by
 party_of (command.Drop by place) = by
 party_of (command.Sweep by place) = by
+party_of (command.Release by place) = by
 party_of (command.Live by) = by
 
 -- the handle that a command names, with the kind that it has to be of
 abbrev pub named_by : Command → Option (HandleKind × ℕ)
 named_by (command.HostType by sub) = None
+named_by (command.Module by types) = None
 named_by (command.Clone by place) = Some (kind.Type, place)
 named_by (command.Root by index) = None
 named_by (command.Drop by place) = Some (kind.Type, place)
 named_by (command.Sweep by place) = Some (kind.Debt, place)
+named_by (command.Release by place) = Some (kind.Module, place)
 named_by (command.Live by) = None
 
--- a drop and a sweep take no memory
+-- a drop, a sweep and a release take no memory
 abbrev pub takes_memory : Command → Bool
 takes_memory (command.HostType by sub) = true
+takes_memory (command.Module by types) = true
 takes_memory (command.Clone by place) = true
 takes_memory (command.Root by index) = true
 takes_memory (command.Drop by place) = false
 takes_memory (command.Sweep by place) = false
+takes_memory (command.Release by place) = false
 takes_memory (command.Live by) = true
 
--- drops and sweeps alone
+-- drops, sweeps and releases alone
 abbrev pub TakeNoMemory : List Command → Type 0
 TakeNoMemory commands = (command : Command) → Among command commands → takes_memory command ≡ false
 
@@ -62,15 +70,11 @@ TakeNoMemory commands = (command : Command) → Among command commands → takes
 abbrev pub held_by : Handle → List ℕ
 held_by (handle.Type hold) = hold.number ∷ []
 held_by (handle.Owed number) = []
+held_by (handle.Module types) = types.numbers
 held_by handle.Ended = []
 
 abbrev pub held_in : List Handle → List ℕ
 held_in row = flat_map held_by row
-
--- how often a number stands in a list
-abbrev pub times : ℕ → List ℕ → ℕ
-times n [] = 0
-times n (m ∷ rest) = if m == n then times n rest + 1 else times n rest
 
 -- the registration numbers that all parties' handles hold
 abbrev pub holds : World → List ℕ
@@ -97,6 +101,7 @@ abbrev pub type_in : Option Handle → Option Hold
 type_in None = None
 type_in (Some (handle.Type hold)) = Some hold
 type_in (Some (handle.Owed number)) = None
+type_in (Some (handle.Module types)) = None
 type_in (Some handle.Ended) = None
 
 -- the hold of a type handle
@@ -107,8 +112,34 @@ abbrev pub debt_in : Option Handle → Option ℕ
 debt_in None = None
 debt_in (Some (handle.Type hold)) = None
 debt_in (Some (handle.Owed number)) = Some number
+debt_in (Some (handle.Module types)) = None
 debt_in (Some handle.Ended) = None
 
 -- the registration number of the group that a debt's party is to sweep
 abbrev pub debt_at : List Handle → ℕ → Option ℕ
 debt_at row place = debt_in (slice_get row place)
+
+abbrev pub module_in : Option Handle → Option Collection
+module_in None = None
+module_in (Some (handle.Type hold)) = None
+module_in (Some (handle.Owed number)) = None
+module_in (Some (handle.Module types)) = Some types
+module_in (Some handle.Ended) = None
+
+-- what a party holds by a handle on a module
+abbrev pub module_at : List Handle → ℕ → Option Collection
+module_at row place = module_in (slice_get row place)
+
+-- what a caller sees to: a module's lists are short, and its references are by module index
+abbrev pub IsCommand : Command → Type 0
+IsCommand (command.HostType by sub) = Unit {0}
+IsCommand (command.Module by types) = AreCountable types.groups × AreModuleTypes types.groups
+IsCommand (command.Clone by place) = Unit {0}
+IsCommand (command.Root by index) = Unit {0}
+IsCommand (command.Drop by place) = Unit {0}
+IsCommand (command.Sweep by place) = Unit {0}
+IsCommand (command.Release by place) = Unit {0}
+IsCommand (command.Live by) = Unit {0}
+
+abbrev pub AreCommands : List Command → Type 0
+AreCommands commands = (command : Command) → Among command commands → IsCommand command

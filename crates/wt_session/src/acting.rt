@@ -1,12 +1,13 @@
 //! Commands of a party on its own handles.
 
 ghost use Rattle.std.specs.Prelude.{◌≡◌, ◌<◌, false, IfOk, OnErr, IsOk};
-ghost use Rattle.wt_session.specs.World.{party_of, takes_memory};
+ghost use Rattle.wt_session.specs.World.{party_of, takes_memory, IsCommand};
 ghost use Rattle.wt_session.specs.Run.{outcome_of, done_by};
 ghost use Rattle.wt_session.specs.Session.{rows_of, world_of, AreHandles, IsKept, Keeps};
 
 use crate::command::Command;
 use crate::handle::Handle;
+use crate::module_handles::{register_module, release_module};
 use crate::reply::Reply;
 use crate::rows::{Row, reach};
 use crate::type_handles::{
@@ -25,6 +26,7 @@ fn act(
     row: &mut Vec<Handle>,
     command: &Command,
 ) -> Result<Reply, OutOfMemory>
+    requires command { IsCommand command.now }
     requires by { party.old ≡ party_of command.now }
     requires below { party.old < registry.old.engine.limits.parties }
     requires handles { AreHandles registry.old party.old row.old.items }
@@ -36,15 +38,17 @@ fn act(
 {
     match command {
         Command::HostType { by: _, sub } => register_type(alloc, registry, party, row, sub),
+        Command::Module { by: _, groups } => register_module(alloc, registry, party, row, groups),
         Command::Clone { by: _, handle } => clone_type(registry, party, row, *handle),
         Command::Root { by: _, index } => root_type(registry, party, row, *index),
         Command::Drop { by: _, handle } => Ok(drop_type(registry, party, row, *handle)),
         Command::Sweep { by: _, handle } => Ok(sweep_debt(registry, party, row, *handle)),
+        Command::Release { by: _, handle } => { Ok(release_module(registry, party, row, *handle)) }
         Command::Live { by: _ } => Ok(Reply::Live(registry.live()?)),
     }
 }
 
-/// One command of a party below the limit. A drop and a sweep take no memory.
+/// One command of a party below the limit. A drop, a sweep and a release take no memory.
 pub(crate) fn act_by(
     alloc: Global,
     registry: &mut TypeRegistry,
@@ -52,6 +56,7 @@ pub(crate) fn act_by(
     party: u32,
     command: &Command,
 ) -> Result<Reply, OutOfMemory>
+    requires command { IsCommand command.now }
     requires by { party ≡ party_of command.now }
     requires below { party < registry.old.engine.limits.parties }
     requires kept { IsKept registry.old (rows_of rows.old.items) }

@@ -1,7 +1,12 @@
 //! What a party can ask of a session.
 
+ghost use Rattle.std.specs.Prelude.{IsTrue, ◌↔◌};
+ghost use Rattle.wt_session.specs.World.{IsCommand, AreCommands};
+
 use crate::reply::HandleKind;
 use wt_env::seq::Seq;
+use wt_env::types::ModuleTypes;
+use wt_registry::validity::{are_countable, are_module_types};
 
 /// A value type as a command of the host names it.
 #[derive(Clone, Copy, Debug, PartialEq, Eq)]
@@ -28,6 +33,8 @@ pub enum HostSub {
 pub enum Command {
     /// Registers a type, and takes a handle on it.
     HostType { by: u32, sub: HostSub },
+    /// Registers the recursion groups of a module, and takes one handle on all of its types.
+    Module { by: u32, groups: ModuleTypes },
     /// Takes one more handle on the type of a handle.
     Clone { by: u32, handle: u32 },
     /// Takes a handle on the type that has this index.
@@ -36,6 +43,8 @@ pub enum Command {
     Drop { by: u32, handle: u32 },
     /// Sweeps the group of a debt. The debt has the number of the handle that was dropped.
     Sweep { by: u32, handle: u32 },
+    /// Releases a module.
+    Release { by: u32, handle: u32 },
     /// Tells which groups are registered.
     Live { by: u32 },
 }
@@ -50,10 +59,12 @@ impl Command {
     {
         match self {
             Command::HostType { by, sub: _ } => *by,
+            Command::Module { by, groups: _ } => *by,
             Command::Clone { by, handle: _ } => *by,
             Command::Root { by, index: _ } => *by,
             Command::Drop { by, handle: _ } => *by,
             Command::Sweep { by, handle: _ } => *by,
+            Command::Release { by, handle: _ } => *by,
             Command::Live { by } => *by,
         }
     }
@@ -66,7 +77,31 @@ impl Command {
             Command::Clone { by: _, handle } => Some((HandleKind::Type, *handle)),
             Command::Drop { by: _, handle } => Some((HandleKind::Type, *handle)),
             Command::Sweep { by: _, handle } => Some((HandleKind::Debt, *handle)),
+            Command::Release { by: _, handle } => Some((HandleKind::Module, *handle)),
             _ => None,
         }
     }
+}
+
+/// Whether a command is one that a session can run: the types of a module are counted by 32 bits, and refer
+/// to each other by module indices.
+fn is_command(command: &Command) -> bool
+    ensures { IsTrue result ↔ IsCommand command.now }
+{
+    match command {
+        Command::Module { by: _, groups } => are_countable(groups) && are_module_types(groups),
+        _ => true,
+    }
+}
+
+/// Whether each command is one that a session can run. It takes no memory.
+pub fn are_commands(commands: &[Command]) -> bool
+    ensures { IsTrue result ↔ AreCommands commands.now }
+{
+    for command in commands {
+        if !is_command(command) {
+            return false;
+        }
+    }
+    true
 }

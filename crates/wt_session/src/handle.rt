@@ -1,5 +1,6 @@
 //! What a party holds.
 
+use wt_registry::collection::TypeCollection;
 use wt_registry::debt::Debt;
 use wt_registry::registered_type::RegisteredType;
 
@@ -10,6 +11,8 @@ pub enum Handle {
     Type(RegisteredType),
     /// A type that was dropped, and whose group the party is to sweep.
     Owed(Debt),
+    /// The types of a module, of whose groups the party has holds.
+    Module(TypeCollection),
     /// Nothing any more.
     Ended,
 }
@@ -20,6 +23,7 @@ impl Handle {
         match self {
             Handle::Type(hold) => hold.forget(),
             Handle::Owed(debt) => debt.forget(),
+            Handle::Module(types) => types.forget(),
             Handle::Ended => {}
         }
     }

@@ -1,8 +1,9 @@
 //! Facts that follow from the contracts, each carried by a call.
 
-ghost use Rattle.std.specs.Prelude.{◌≡◌, ℕ, ◌≤◌, ◌++◌, length, take, OnOk, OnErr};
+ghost use Rattle.std.specs.Prelude.{◌≡◌, ℕ, ◌≤◌, ◌++◌, [], length, take, OnOk, OnErr};
+ghost use Rattle.wt_registry.specs.Registry.{waiting};
 ghost use Rattle.wt_registry.specs.Sound.{OneIndexPerTree};
-ghost use Rattle.wt_session.specs.World.{HasExactlyReached};
+ghost use Rattle.wt_session.specs.World.{HasExactlyReached, AreCommands, holds};
 ghost use Rattle.wt_session.specs.Run.{replies_of, world_after};
 
 use crate::command::Command;
@@ -19,6 +20,8 @@ pub fn run_both(
     second: &[Command],
     replies: &mut Vec<Reply>,
 ) -> Result<(), OutOfMemory>
+    requires first { AreCommands first.now }
+    requires second { AreCommands second.now }
     ensures replies { OnOk result (replies.new.items ≡ replies.old.items ++ replies_of session.old (first.now ++ second.now)) }
     ensures world { OnOk result (session.new ≡ world_after session.old (first.now ++ second.now)) }
     ensures err { OnErr result ((n : ℕ) × (n ≤ length (first.now ++ second.now))
@@ -29,4 +32,13 @@ pub fn run_both(
 {
     run_session(session, first, replies)?;
     run_session(session, second, replies)
+}
+
+/// Where nothing is held and nothing waits for a sweep, nothing is registered.
+pub fn nothing_stands(session: &Session)
+    requires held { holds session.now ≡ [] }
+    requires waits { waiting session.now.registry.standings ≡ [] }
+    ensures { session.now.registry.made ≡ [] }
+{
+    session.assure();
 }

@@ -6,6 +6,7 @@ pub mod command;
 pub mod handle;
 mod host;
 pub mod laws;
+mod module_handles;
 pub mod reply;
 pub mod rows;
 pub mod run;

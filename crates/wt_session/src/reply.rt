@@ -3,7 +3,7 @@
 use wt_env::seq::Seq;
 use wt_registry::debt::Swept;
 use wt_registry::live::LiveGroup;
-use wt_registry::refusal::Full;
+use wt_registry::refusal::{Full, Place, Rule};
 
 /// What a handle stands for, as a command needs it.
 #[derive(Clone, Copy, Debug, PartialEq, Eq)]
@@ -12,6 +12,8 @@ pub enum HandleKind {
     Type,
     /// A group that waits for the party's sweep.
     Debt,
+    /// The types of a module.
+    Module,
 }
 
 /// Why a command was refused. A refused command changes nothing.
@@ -19,6 +21,13 @@ pub enum HandleKind {
 pub enum Refusal {
     /// A limit would be passed.
     Full(Full),
+    /// A rule of module types is broken, first at this place.
+    InvalidModule {
+        place: Place,
+        rule: Rule,
+    },
+    /// The engine has no garbage collection, and some type is no function.
+    NoGc,
     /// The party has no handle of this kind under this number.
     NoSuchHandle {
         party: u32,
@@ -33,6 +42,8 @@ pub enum Reply {
     /// A handle on a type was made: its number, over all handles of the party from 0, and the index of
     /// the type.
     TypeMade { handle: u64, index: u32 },
+    /// A handle on a module's types was made: its number, and the index of each type.
+    Module { handle: u64, indices: Seq<u32> },
     /// No registered type has the index.
     NoneFound,
     /// The handle was dropped, and its number is that of a debt now: nobody holds the type's group any more,
@@ -42,6 +53,8 @@ pub enum Reply {
     Dropped,
     /// What a sweep did. The debt is spent.
     Swept(Swept),
+    /// The module was released.
+    Released,
     /// The registered groups, in order of their registration numbers.
     Live(Seq<LiveGroup>),
     /// The command was refused.

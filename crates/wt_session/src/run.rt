@@ -2,7 +2,7 @@
 
 ghost use Rattle.std.specs.Prelude.{◌≡◌, ℕ, ◌≤◌, ◌<◌, ◌+◌, ◌++◌, ◌∷◌, [], length, take, OnOk, OnErr, IsOk, vec_len, vec_capacity};
 ghost use Rattle.wt_registry.specs.Sound.{OneIndexPerTree};
-ghost use Rattle.wt_session.specs.World.{HasExactlyReached, TakeNoMemory};
+ghost use Rattle.wt_session.specs.World.{HasExactlyReached, TakeNoMemory, AreCommands};
 ghost use Rattle.wt_session.specs.Run.{replies_of, world_after};
 
 use crate::command::Command;
@@ -16,6 +16,7 @@ fn run_all(
     commands: &[Command],
     replies: &mut Vec<Reply>,
 ) -> Result<(), OutOfMemory>
+    requires { AreCommands commands.now }
     ensures replies { OnOk result (replies.new.items ≡ replies.old.items ++ replies_of session.old commands.now) }
     ensures world { OnOk result (session.new ≡ world_after session.old commands.now) }
     ensures err { OnErr result ((n : ℕ) × (n ≤ length commands.now)
@@ -37,13 +38,17 @@ fn run_all(
 /// are exactly those reached from what is held or waits for a sweep.
 ///
 /// The only refusal is want of memory. Then some of the commands from the first on are done and replied
-/// to, and no other is done in part. It never comes where each command is a drop or a sweep, and there is
+/// to, and no other is done in part. It never comes where each command is a drop, a sweep or a release, and there is
 /// room for their replies.
+///
+/// The types of a module in a command are a caller's condition: their lists are shorter than 2^32, and they
+/// refer to types by module indices (`wt_registry::validity` has the tests).
 pub fn run_session(
     session: &mut Session,
     commands: &[Command],
     replies: &mut Vec<Reply>,
 ) -> Result<(), OutOfMemory>
+    requires { AreCommands commands.now }
     ensures replies { OnOk result (replies.new.items ≡ replies.old.items ++ replies_of session.old commands.now) }
     ensures world { OnOk result (session.new ≡ world_after session.old commands.now) }
     ensures err { OnErr result ((n : ℕ) × (n ≤ length commands.now)

@@ -35,7 +35,7 @@ impl Session {
     ghost use Rattle.std.specs.Prelude.{◌≡◌, false, IfOk, OnErr, IsOk};
     ghost use Rattle.wt_registry.specs.Sound.{OneIndexPerTree};
     ghost use Rattle.wt_registry.specs.Live.{live_of};
-    ghost use Rattle.wt_session.specs.World.{HasExactlyReached, takes_memory};
+    ghost use Rattle.wt_session.specs.World.{HasExactlyReached, takes_memory, IsCommand};
     ghost use Rattle.wt_session.specs.Run.{step};
     ghost use Rattle.wt_session.specs.Session.{new_world};
 
@@ -70,6 +70,7 @@ impl Session {
 
     /// One step of the session. Want of memory leaves all as before.
     pub(crate) fn step(&mut self, command: &Command) -> Result<Reply, OutOfMemory>
+        requires { IsCommand command.now }
         ensures ok { IfOk result (λ reply. step self.old command.now ≡ (reply, self.new)) }
         ensures err { OnErr result (self.new ≡ self.old) }
         ensures calm { takes_memory command.now ≡ false → IsOk result }

@@ -130,7 +130,7 @@ pub(crate) fn root_type(
 }
 
 /// Takes what stands at a place, and leaves an ended handle there.
-fn take(row: &mut Vec<Handle>, place: usize) -> Handle
+pub(crate) fn take(row: &mut Vec<Handle>, place: usize) -> Handle
     requires { place < length row.old.items }
     ensures taken { slice_get row.old.items place ≡ Some result }
     ensures row { row.new.items ≡ slice_set row.old.items place Handle.Ended }
@@ -139,7 +139,7 @@ fn take(row: &mut Vec<Handle>, place: usize) -> Handle
 }
 
 /// Puts a handle at a place of which the handle was taken.
-fn put(row: &mut Vec<Handle>, place: usize, handle: Handle)
+pub(crate) fn put(row: &mut Vec<Handle>, place: usize, handle: Handle)
     requires { place < length row.old.items }
     ensures { row.new.items ≡ slice_set row.old.items place handle }
 {

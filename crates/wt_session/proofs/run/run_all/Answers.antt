@@ -7,6 +7,7 @@ use Rattle.wt_session.specs.declared.command.Command.{Command}
 use Rattle.wt_session.specs.declared.reply.Reply.{Reply}
 use Rattle.wt_session.specs.World.{World}
 use Rattle.wt_session.specs.Run.{step, replies_of, world_after}
+use Rattle.wt_session.proofs.Times.{among_read}
 use Rattle.wt_session.proofs.Turns.{replies_of-one_more, world_after-one_more}
 use Rattle.wt_session.proofs.run.run_all.Goals as goal
 
@@ -40,12 +41,12 @@ loop-command-preserved c =
       room = omega (arith, c.push_reserved.ensures.len, c.push_reserved.ensures.capacity, c.loop-command.invariant.room, below);
     }
 
-among_read : (commands : List Command) (n : ℕ) (command : Command) → n < length commands → command ≡ get_or commands n command → Among command commands
-among_read [] n command below is = absurd (omega arith)
-among_read (first ∷ commands) zero command below is = inl is
-among_read (first ∷ commands) (suc n) command below is = inr (among_read commands n command (omega arith) is)
-
 pub returns-in_err-reply-clause-calm : goal.returns-in_err-reply-clause-calm
 returns-in_err-reply-clause-calm c = λ calm room.
     let command = c.command-item.result in
     absurd (false≢true (c.in_err-reply.ensures.calm (calm command (among_read c.args.commands.now c.loop-command.command-index command c.loop-command-test.true c.command-item.is))))
+
+pub step-requires : goal.step-requires
+step-requires c =
+    let command = c.command-item.result in
+    c.requires command (among_read c.args.commands.now c.loop-command.command-index command c.loop-command-test.true c.command-item.is)

@@ -38,13 +38,13 @@ returns-in-Some-clause-keeps c =
     let debt = handle.Owed c.in-Some.debt in
     let changed : c.put.new.row.items ≡ slice_set row place debt = c.put.ensures ∙ ap (λ (r : List Handle). slice_set r place debt) c.take.ensures.row ∙ set-twice row place handle.Ended debt in
     subst (Keeps c.args.registry.now c.decref.new.registry c.args.party.now) (sym changed)
-    (keeps-less c.args.registry.now c.decref.new.registry c.args.party.now row place c.in-Type.hold debt c.requires.handles c.in-Type.ensures.taken refl c.in-Some.ensures.loses c.in-Some.ensures.sound)
+    (keeps-less c.args.registry.now c.decref.new.registry c.args.party.now row place c.in-Type.hold debt c.requires.handles c.in-Type.ensures.taken tt c.in-Some.ensures.loses c.in-Some.ensures.sound)
 
 pub returns-in-None-clause-keeps : goal.returns-in-None-clause-keeps
 returns-in-None-clause-keeps c =
     let row = c.args.row.now.items in
     subst (Keeps c.args.registry.now c.decref.new.registry c.args.party.now) (sym c.take.ensures.row)
-    (keeps-less c.args.registry.now c.decref.new.registry c.args.party.now row c.args.handle c.in-Type.hold handle.Ended c.requires.handles c.in-Type.ensures.taken refl c.in-None.ensures.loses c.in-None.ensures.sound)
+    (keeps-less c.args.registry.now c.decref.new.registry c.args.party.now row c.args.handle c.in-Type.hold handle.Ended c.requires.handles c.in-Type.ensures.taken tt c.in-None.ensures.loses c.in-None.ensures.sound)
 
 pub returns-in_default : goal.returns-in_default
 returns-in_default c =
