@@ -2,9 +2,9 @@
 -- value, key or form that isn't named here stands for none.
 use Rattle.std.specs.Prelude.{◌==◌, true, codes, List, Option, None, option_map, option_and_then, if◌then◌else◌}
 use Rattle.std.specs.Option.{option_map_or}
-use Rattle.serde_json.specs.Data.{Data, Items, no_items, item}
+use Rattle.serde_json.specs.Data.{Data}
 use Rattle.serde_json.specs.Find.{get, as_array}
-use Rattle.wt_env.specs.Json.{key_count, each_of}
+use Rattle.wt_env.specs.Json.{key_count, each_of, two_of}
 use Rattle.wt_env.specs.DecodeValues.{decode_number, decode_field}
 use Rattle.wt_env.specs.declared.types.WasmValType.{WasmValType}
 use Rattle.wt_env.specs.declared.types.WasmFuncType.{WasmFuncType}
@@ -24,16 +24,9 @@ decode_numbers d = option_and_then (each_of decode_number) (as_array d)
 abbrev pub func_from : Data → Data → Option WasmFuncType
 func_from params results = option_and_then (λ ps. option_map (λ rs. record { params = ps; results = rs }) (decode_numbers results)) (decode_numbers params)
 
--- the function type that items stand for, if they are exactly two
-abbrev pub func_of : Items → Option WasmFuncType
-func_of no_items = None
-func_of (item params no_items) = None
-func_of (item params (item results no_items)) = func_from params results
-func_of (item params (item results (item d ds))) = None
-
 -- a function type: [parameters, results]
 abbrev pub decode_func : Data → Option WasmFuncType
-decode_func d = option_and_then func_of (as_array d)
+decode_func d = option_and_then (two_of func_from) (as_array d)
 
 -- a struct type: the list of its fields
 abbrev pub decode_struct : Data → Option WasmStructType

@@ -5,7 +5,7 @@ use Rattle.std.specs.Prelude.{ℕ, Bool, true, false, bytes_eq, codes, List, Opt
 use Rattle.std.specs.Option.{option_map_or, option_or}
 use Rattle.serde_json.specs.Data.{Data}
 use Rattle.serde_json.specs.Find.{as_str}
-use Rattle.wt_env.specs.Json.{only_at, decode_word}
+use Rattle.wt_env.specs.Json.{only_at, decode_u32}
 use Rattle.wt_env.specs.declared.types.EngineOrModuleTypeIndex.{EngineOrModuleTypeIndex}
 use Rattle.wt_env.specs.declared.types.EngineOrModuleTypeIndex.TheVariants.{Module}
 use Rattle.wt_env.specs.declared.types.WasmHeapType.{WasmHeapType}
@@ -37,7 +37,7 @@ abstract_named name =
 
 -- a type of the module, by its index over all members of all groups
 abbrev pub decode_index : Data → Option EngineOrModuleTypeIndex
-decode_index d = option_map (λ index. Module (record { 0 = index })) (decode_word d)
+decode_index d = option_map (λ index. Module (record { 0 = index })) (decode_u32 d)
 
 -- a concrete heap type: the index of a type of the module, under the key that says its kind
 abbrev pub decode_concrete : Data → Option WasmHeapType

@@ -14,13 +14,20 @@ abbrev pub only_at : List ℕ → Data → Option Data
 only_at key d = if key_count d == 1 then get key d else None
 
 -- a number of 32 bits
-abbrev pub word_of : ℕ → Option ℕ
-word_of n = if nat_lt n 4294967296 then Some n else None
+abbrev pub u32_of : ℕ → Option ℕ
+u32_of n = if nat_lt n 4294967296 then Some n else None
 
-abbrev pub decode_word : Data → Option ℕ
-decode_word d = option_and_then word_of (option_and_then as_u64 (as_number d))
+abbrev pub decode_u32 : Data → Option ℕ
+decode_u32 d = option_and_then u32_of (option_and_then as_u64 (as_number d))
 
 -- what the items stand for, one by one, if each stands for something
 abbrev pub each_of : {X : Type 0} → (Data → Option X) → Items → Option (List X)
 each_of read no_items = Some []
 each_of read (item d ds) = option_and_then (λ x. option_map (λ xs. x ∷ xs) (each_of read ds)) (read d)
+
+-- what two items stand for, if they are exactly two
+abbrev pub two_of : {X : Type 0} → (Data → Data → Option X) → Items → Option X
+two_of read no_items = None
+two_of read (item first no_items) = None
+two_of read (item first (item second no_items)) = read first second
+two_of read (item first (item second (item third rest))) = None

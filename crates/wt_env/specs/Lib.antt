@@ -8,3 +8,4 @@ pub mod MemoryStream
 pub mod Status
 pub mod StdStream
 pub mod Stream
+pub mod Among

@@ -5,7 +5,7 @@ ghost use Rattle.std.specs.Prelude.{◌≡◌};
 ghost use Rattle.serde_json.specs.View.{view};
 ghost use Rattle.wt_env.specs.DecodeValues.{abstract_named, decode_index, decode_concrete, decode_heap, nullable_named, decode_spelled_ref, decode_ref, number_named, decode_number, decode_val, packed_named, decode_packed, decode_storage, decode_field};
 
-use crate::json::{decode_word, only_at};
+use crate::json::{decode_u32, only_at};
 use crate::types::{
     EngineOrModuleTypeIndex, ModuleInternedTypeIndex, WasmFieldType, WasmHeapType, WasmRefType,
     WasmStorageType, WasmValType,
@@ -194,7 +194,7 @@ fn decode_concrete(value: &Value) -> Option<WasmHeapType>
 fn decode_index(value: &Value) -> Option<EngineOrModuleTypeIndex>
     ensures { result ≡ decode_index (view value.now) }
 {
-    decode_word(value).map(|index| EngineOrModuleTypeIndex::Module(ModuleInternedTypeIndex(index)))
+    decode_u32(value).map(|index| EngineOrModuleTypeIndex::Module(ModuleInternedTypeIndex(index)))
 }
 
 #[cfg(test)]

@@ -3,7 +3,7 @@
 
 ghost use Rattle.std.specs.Prelude.{◌≡◌, option_map};
 ghost use Rattle.serde_json.specs.View.{view};
-ghost use Rattle.wt_env.specs.Json.{key_count, only_at, word_of, decode_word};
+ghost use Rattle.wt_env.specs.Json.{key_count, only_at, u32_of, decode_u32};
 
 use serde_json::Value;
 
@@ -29,18 +29,18 @@ pub fn only_at<'a>(value: &'a Value, key: &str) -> Option<&'a Value>
 }
 
 /// A number of 32 bits: whole, at least 0, below 2^32, and written without a point or an exponent.
-pub fn decode_word(value: &Value) -> Option<u32>
-    ensures { result ≡ decode_word (view value.now) }
+pub fn decode_u32(value: &Value) -> Option<u32>
+    ensures { result ≡ decode_u32 (view value.now) }
 {
     match value.as_u64() {
-        Some(number) => word_of(number),
+        Some(number) => u32_of(number),
         None => None,
     }
 }
 
 /// The number, if it has 32 bits.
-pub fn word_of(number: u64) -> Option<u32>
-    ensures { result ≡ word_of number }
+fn u32_of(number: u64) -> Option<u32>
+    ensures { result ≡ u32_of number }
 {
     if number < 4294967296 {
         Some(number as u32)

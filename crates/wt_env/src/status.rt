@@ -58,3 +58,32 @@ impl fmt::Display for Status {
         }
     }
 }
+
+#[cfg(test)]
+mod tests {
+    use super::*;
+    use std::test::Fail;
+
+    /// Each status with its code and its text, as the README lists them.
+    const ROWS: [(Status, u8, &str); 9] = [
+        (Status::Done, 0, "Done"),
+        (Status::Usage, 2, "Usage"),
+        (Status::ReadFault, 3, "ReadFault"),
+        (Status::WriteFault, 4, "WriteFault"),
+        (Status::TooLong, 5, "TooLong"),
+        (Status::NotJson, 6, "NotJson"),
+        (Status::BadCommand(0), 7, "BadCommand at 0"),
+        (Status::BadCommand(12), 7, "BadCommand at 12"),
+        (Status::OutOfMemory, 8, "OutOfMemory"),
+    ];
+
+    #[test]
+    fn tells_each_code_and_text(rt: HostRuntime) -> Result<(), Fail> {
+        for (status, code, text) in ROWS {
+            let told = format!(in rt.alloc(); "{status}")?;
+            assert_eq!(rt; status.code(), code, "at {text}");
+            assert_eq!(rt; told.as_str(), text);
+        }
+        Ok(())
+    }
+}

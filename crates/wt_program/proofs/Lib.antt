@@ -1,3 +1,9 @@
 pub mod Completeness
-pub mod Items
+pub mod DecodedCommands
+pub mod DecodedItems
+pub mod DecodedModules
+pub mod Decoding
+pub mod ItemCount
+pub mod ParsedCount
 pub mod Streams
+pub mod TokenCount

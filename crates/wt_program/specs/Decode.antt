@@ -1,11 +1,14 @@
 -- Which commands a JSON value stands for (JSON as of RFC 8259). A command is an object with exactly
 -- the keys that are named, and maybe `by`; any other value, key or form is no command.
-use Rattle.std.specs.Prelude.{ℕ, suc, ◌-◌, ◌==◌, nat_lt, bytes_eq, codes, List, [], ◌∷◌, Option, Some, None, Result, Ok, Err, option_map, option_and_then, if◌then◌else◌}
+use Rattle.std.specs.Prelude.{ℕ, suc, ◌-◌, ◌==◌, bytes_eq, codes, List, [], ◌∷◌, Option, Some, None, Result, Ok, Err, option_map, option_and_then, if◌then◌else◌}
 use Rattle.std.specs.Option.{option_map_or}
 use Rattle.serde_json.specs.Data.{Data, Items, no_items, item}
-use Rattle.serde_json.specs.Events.{members_len}
-use Rattle.serde_json.specs.Find.{get, as_str, as_number, as_u64, as_array, as_object}
+use Rattle.serde_json.specs.Find.{get, as_str, as_array}
 use Rattle.wt_env.specs.DecodeGroups.{decode_groups}
+use Rattle.wt_env.specs.DecodeValues.{decode_number}
+use Rattle.wt_env.specs.Json.{key_count, decode_u32, each_of, two_of}
+use Rattle.wt_env.specs.declared.types.WasmValType.{WasmValType}
+use Rattle.wt_env.specs.declared.types.WasmValType.TheVariants as types
 use Rattle.wt_session.specs.declared.command.HostVal.{HostVal}
 use Rattle.wt_session.specs.declared.command.HostVal.TheVariants.{I32, I64, F32, F64, V128}
 use Rattle.wt_session.specs.declared.command.HostSub.{HostSub}
@@ -13,66 +16,43 @@ use Rattle.wt_session.specs.declared.command.HostSub.TheVariants.{Func}
 use Rattle.wt_session.specs.declared.command.Command.{Command}
 use Rattle.wt_session.specs.declared.command.Command.TheVariants.{HostType, Module, Clone, Root, Drop, Sweep, Release, Live}
 
--- how many members an object has; none where the value is no object
-abbrev pub key_count : Data → ℕ
-key_count d = option_map_or members_len (as_object d) 0
+-- a number or vector type as a command of the host names it; none for a reference
+abbrev pub host_val : WasmValType → Option HostVal
+host_val types.I32 = Some I32
+host_val types.I64 = Some I64
+host_val types.F32 = Some F32
+host_val types.F64 = Some F64
+host_val types.V128 = Some V128
+host_val (types.Ref reference) = None
 
--- the value type with a name (WebAssembly 3.0, "Value Types")
-abbrev pub val_named : List ℕ → Option HostVal
-val_named name =
-    if bytes_eq name (codes "i32") then Some I32 else (
-    if bytes_eq name (codes "i64") then Some I64 else (
-    if bytes_eq name (codes "f32") then Some F32 else (
-    if bytes_eq name (codes "f64") then Some F64 else (
-    if bytes_eq name (codes "v128") then Some V128 else None))))
-
--- a value type: the string of its name
+-- a value type: a number or a vector
 abbrev pub decode_val : Data → Option HostVal
-decode_val d = option_and_then val_named (as_str d)
-
--- the value types that items stand for, if each is one
-abbrev pub vals_of : Items → Option (List HostVal)
-vals_of no_items = Some []
-vals_of (item d ds) = option_and_then (λ val. option_map (λ vals. val ∷ vals) (vals_of ds)) (decode_val d)
+decode_val d = option_and_then host_val (decode_number d)
 
 -- a list of value types
 abbrev pub decode_vals : Data → Option (List HostVal)
-decode_vals d = option_and_then vals_of (as_array d)
+decode_vals d = option_and_then (each_of decode_val) (as_array d)
 
 -- the function type with two lists of value types, as parameters and as results
 abbrev pub func_from : Data → Data → Option HostSub
 func_from params results = option_and_then (λ ps. option_map (λ rs. Func ps rs) (decode_vals results)) (decode_vals params)
 
--- the function type that items stand for, if they are exactly two
-abbrev pub func_of : Items → Option HostSub
-func_of no_items = None
-func_of (item params no_items) = None
-func_of (item params (item results no_items)) = func_from params results
-func_of (item params (item results (item d ds))) = None
-
 -- a function type: [parameters, results]
 abbrev pub decode_func : Data → Option HostSub
-decode_func d = option_and_then func_of (as_array d)
+decode_func d = option_and_then (two_of func_from) (as_array d)
 
 -- a type: {"func": [parameters, results]}
 abbrev pub decode_sub : Data → Option HostSub
 decode_sub d = if key_count d == 1 then option_and_then decode_func (get (codes "func") d) else None
 
--- a number of 32 bits
-abbrev pub word_of : ℕ → Option ℕ
-word_of n = if nat_lt n 4294967296 then Some n else None
-
-abbrev pub decode_word : Data → Option ℕ
-decode_word d = option_and_then word_of (option_and_then as_u64 (as_number d))
-
 -- the number of 32 bits under a key
-abbrev pub decode_word_at : List ℕ → Data → Option ℕ
-decode_word_at key d = option_and_then decode_word (get key d)
+abbrev pub decode_u32_at : List ℕ → Data → Option ℕ
+decode_u32_at key d = option_and_then decode_u32 (get key d)
 
 -- the party whose command it is: the key `by`, and party 0 where there is none
 abbrev pub by_from : Option Data → Option ℕ
 by_from None = Some 0
-by_from (Some d) = decode_word d
+by_from (Some d) = decode_u32 d
 
 abbrev pub decode_by : Data → Option ℕ
 decode_by d = by_from (get (codes "by") d)
@@ -104,31 +84,31 @@ abbrev pub decode_module : Data → Option Command
 decode_module d = if own_key_count d == 2 then option_and_then (λ by. module_from by d) (decode_by d) else None
 
 -- the party and the number under this key, of an object with no other key but `do` and maybe `by`
-abbrev pub by_and_word : List ℕ → Data → Option (ℕ × ℕ)
-by_and_word key d =
+abbrev pub by_and_number : List ℕ → Data → Option (ℕ × ℕ)
+by_and_number key d =
     if own_key_count d == 2
-    then option_and_then (λ by. option_map (λ word. (by, word)) (decode_word_at key d)) (decode_by d)
+    then option_and_then (λ by. option_map (λ number. (by, number)) (decode_u32_at key d)) (decode_by d)
     else None
 
 -- {"do": "clone", "handle": a number}
 abbrev pub decode_clone : Data → Option Command
-decode_clone d = option_map (λ words. Clone words.0 words.1) (by_and_word (codes "handle") d)
+decode_clone d = option_map (λ numbers. Clone numbers.0 numbers.1) (by_and_number (codes "handle") d)
 
 -- {"do": "root", "index": a number}
 abbrev pub decode_root : Data → Option Command
-decode_root d = option_map (λ words. Root words.0 words.1) (by_and_word (codes "index") d)
+decode_root d = option_map (λ numbers. Root numbers.0 numbers.1) (by_and_number (codes "index") d)
 
 -- {"do": "drop", "handle": a number}
 abbrev pub decode_drop : Data → Option Command
-decode_drop d = option_map (λ words. Drop words.0 words.1) (by_and_word (codes "handle") d)
+decode_drop d = option_map (λ numbers. Drop numbers.0 numbers.1) (by_and_number (codes "handle") d)
 
 -- {"do": "sweep", "handle": a number}
 abbrev pub decode_sweep : Data → Option Command
-decode_sweep d = option_map (λ words. Sweep words.0 words.1) (by_and_word (codes "handle") d)
+decode_sweep d = option_map (λ numbers. Sweep numbers.0 numbers.1) (by_and_number (codes "handle") d)
 
 -- {"do": "release", "handle": a number}
 abbrev pub decode_release : Data → Option Command
-decode_release d = option_map (λ words. Release words.0 words.1) (by_and_word (codes "handle") d)
+decode_release d = option_map (λ numbers. Release numbers.0 numbers.1) (by_and_number (codes "handle") d)
 
 -- the command of an object whose key `do` has this word
 abbrev pub command_called : List ℕ → Data → Option Command

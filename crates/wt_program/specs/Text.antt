@@ -4,16 +4,16 @@ use Rattle.std.specs.Fmt.{decimal}
 use Rattle.std.specs.List.{flat_map}
 use Rattle.wt_env.specs.declared.limits.Limit.{Limit}
 use Rattle.wt_env.specs.declared.limits.Limit.TheVariants.{Parties, Groups, Types, References, Ever, Holds}
-use Rattle.wt_registry.specs.declared.debt.Swept.{Swept}
-use Rattle.wt_registry.specs.declared.debt.Swept.TheVariants.{Removed, Kept, Gone}
-use Rattle.wt_registry.specs.declared.live.LiveGroup.{LiveGroup}
-use Rattle.wt_registry.specs.declared.refusal.Full.{Full}
-use Rattle.wt_registry.specs.declared.refusal.Place.{Place}
-use Rattle.wt_registry.specs.declared.refusal.Place.TheVariants.{Member}
-use Rattle.wt_registry.specs.declared.refusal.Rule.{Rule}
-use Rattle.wt_registry.specs.declared.refusal.Rule.TheVariants.{Forward, Kind}
-use Rattle.wt_session.specs.declared.reply.HandleKind.{HandleKind}
-use Rattle.wt_session.specs.declared.reply.HandleKind.TheVariants as kinds
+use Rattle.wt_model.specs.declared.swept.Swept.{Swept}
+use Rattle.wt_model.specs.declared.swept.Swept.TheVariants.{Removed, Kept, Gone}
+use Rattle.wt_model.specs.declared.live.LiveGroup.{LiveGroup}
+use Rattle.wt_model.specs.declared.refusal.Full.{Full}
+use Rattle.wt_rules.specs.declared.place.Place.{Place}
+use Rattle.wt_rules.specs.declared.place.Place.TheVariants.{Member}
+use Rattle.wt_rules.specs.declared.place.Rule.{Rule}
+use Rattle.wt_rules.specs.declared.place.Rule.TheVariants.{Forward, Kind}
+use Rattle.wt_model.specs.declared.handle_kind.HandleKind.{HandleKind}
+use Rattle.wt_model.specs.declared.handle_kind.HandleKind.TheVariants as kinds
 use Rattle.wt_session.specs.declared.reply.Refusal.{Refusal}
 use Rattle.wt_session.specs.declared.reply.Refusal.TheVariants as refusals
 use Rattle.wt_session.specs.declared.reply.Reply.{Reply}

@@ -1,18 +1,24 @@
 //! Commands from JSON: which commands a value stands for, or which element of it is none. It rests on
 //! what `serde_json` says of looking into a value.
 
-ghost use Rattle.std.specs.Prelude.{◌≡◌, Ok, Err, IfOk};
+ghost use Rattle.std.specs.Prelude.{◌≡◌, ℕ, ◌^◌, ◌<◌, List, length, Some, Ok, Err, IfOk};
+ghost use Rattle.serde_json.specs.Read.{read};
 ghost use Rattle.serde_json.specs.View.{view, items_view};
-ghost use Rattle.wt_program.specs.Decode.{key_count, own_key_count, word_of, decode_word, decode_word_at, decode_by, by_and_word, type_from, val_named, decode_val, vals_of, decode_vals, func_from, decode_func, decode_sub, decode_live, decode_type, module_from, decode_module, decode_clone, decode_root, decode_drop, decode_sweep, decode_release, decode_command, decode_commands, decode};
+ghost use Rattle.wt_env.specs.Json.{each_of};
+ghost use Rattle.wt_program.specs.Decode.{own_key_count, decode_u32_at, decode_by, by_and_number, type_from, host_val, decode_val, decode_vals, func_from, decode_func, decode_sub, decode_live, decode_type, module_from, decode_module, decode_clone, decode_root, decode_drop, decode_sweep, decode_release, decode_command, decode_commands, decode};
 ghost use Rattle.wt_program.specs.declared.decode.DecodeError.{DecodeError};
+ghost use Rattle.wt_session.specs.World.{AreCommands};
 
 use serde_json::Value;
 use std::alloc::{AllocFailed, Global};
 use std::error::Error;
 use std::fmt;
 use wt_env::decode_groups::decode_groups;
+use wt_env::decode_values::decode_number;
+use wt_env::json::{decode_u32, key_count};
 use wt_env::memory::OutOfMemory;
 use wt_env::seq::Seq;
+use wt_env::types::WasmValType;
 use wt_session::command::{Command, HostSub, HostVal};
 
 /// Why no commands were decoded.
@@ -60,9 +66,13 @@ impl<T: Drop> From<AllocFailed<T>> for DecodeError {
 }
 
 /// The commands of a list, in order. `BadCommand` tells the place of the first element that is no
-/// command, from 1, or with 0 that the value is no list.
+/// command, from 1, or with 0 that the value is no list. The commands of a text of fewer than 2^32 bytes
+/// are ones that a session can run: their types refer to each other by module index, and a text has no
+/// more items than bytes.
 pub fn decode(alloc: Global, value: &Value) -> Result<Vec<Command>, DecodeError>
     ensures ok { IfOk result (λ commands. decode (view value.now) ≡ Ok commands.items) }
+    ensures commands { IfOk result (λ commands. (bytes : List ℕ) → read bytes ≡ Some (view value.now)
+        → length bytes < 2 ^ 32 → AreCommands commands.items) }
     ensures bad { (k : _) → result ≡ Err (DecodeError.BadCommand k)
         → decode (view value.now) ≡ Err k }
 {
@@ -166,47 +176,47 @@ fn module_from(alloc: Global, by: u32, value: &Value) -> Result<Option<Command>,
 fn decode_clone(value: &Value) -> Option<Command>
     ensures { result ≡ decode_clone (view value.now) }
 {
-    by_and_word(value, "handle").map(|(by, handle)| Command::Clone { by, handle })
+    by_and_number(value, "handle").map(|(by, handle)| Command::Clone { by, handle })
 }
 
 /// `{"do": "root", "index": a number}`.
 fn decode_root(value: &Value) -> Option<Command>
     ensures { result ≡ decode_root (view value.now) }
 {
-    by_and_word(value, "index").map(|(by, index)| Command::Root { by, index })
+    by_and_number(value, "index").map(|(by, index)| Command::Root { by, index })
 }
 
 /// `{"do": "drop", "handle": a number}`.
 fn decode_drop(value: &Value) -> Option<Command>
     ensures { result ≡ decode_drop (view value.now) }
 {
-    by_and_word(value, "handle").map(|(by, handle)| Command::Drop { by, handle })
+    by_and_number(value, "handle").map(|(by, handle)| Command::Drop { by, handle })
 }
 
 /// `{"do": "sweep", "handle": a number}`.
 fn decode_sweep(value: &Value) -> Option<Command>
     ensures { result ≡ decode_sweep (view value.now) }
 {
-    by_and_word(value, "handle").map(|(by, handle)| Command::Sweep { by, handle })
+    by_and_number(value, "handle").map(|(by, handle)| Command::Sweep { by, handle })
 }
 
 /// `{"do": "release", "handle": a number}`.
 fn decode_release(value: &Value) -> Option<Command>
     ensures { result ≡ decode_release (view value.now) }
 {
-    by_and_word(value, "handle").map(|(by, handle)| Command::Release { by, handle })
+    by_and_number(value, "handle").map(|(by, handle)| Command::Release { by, handle })
 }
 
 /// The party and the number under this key, of an object with no other key but `do` and maybe `by`.
-fn by_and_word(value: &Value, key: &str) -> Option<(u32, u32)>
-    ensures { result ≡ by_and_word key.now (view value.now) }
+fn by_and_number(value: &Value, key: &str) -> Option<(u32, u32)>
+    ensures { result ≡ by_and_number key.now (view value.now) }
 {
     if own_key_count(value) != 2 {
         return None;
     }
     let by = decode_by(value)?;
-    let word = decode_word_at(value, key)?;
-    Some((by, word))
+    let number = decode_u32_at(value, key)?;
+    Some((by, number))
 }
 
 /// The party whose command it is: the key `by`, and party 0 where there is none.
@@ -214,36 +224,16 @@ fn decode_by(value: &Value) -> Option<u32>
     ensures { result ≡ decode_by (view value.now) }
 {
     match value.get("by") {
-        Some(by) => decode_word(by),
+        Some(by) => decode_u32(by),
         None => Some(0),
     }
 }
 
-/// A number of 32 bits.
-fn decode_word(value: &Value) -> Option<u32>
-    ensures { result ≡ decode_word (view value.now) }
-{
-    match value.as_u64() {
-        Some(number) => word_of(number),
-        None => None,
-    }
-}
-
 /// The number of 32 bits under a key.
-fn decode_word_at(value: &Value, key: &str) -> Option<u32>
-    ensures { result ≡ decode_word_at key.now (view value.now) }
+fn decode_u32_at(value: &Value, key: &str) -> Option<u32>
+    ensures { result ≡ decode_u32_at key.now (view value.now) }
 {
-    value.get(key).and_then(decode_word)
-}
-
-fn word_of(number: u64) -> Option<u32>
-    ensures { result ≡ word_of number }
-{
-    if number < 4294967296 {
-        Some(number as u32)
-    } else {
-        None
-    }
+    value.get(key).and_then(decode_u32)
 }
 
 /// How many members an object has besides `by`.
@@ -307,7 +297,7 @@ fn decode_vals(alloc: Global, value: &Value) -> Result<Option<Seq<HostVal>>, Out
 
 /// The value types that elements stand for, if each is one.
 fn vals_of(alloc: Global, list: &[Value]) -> Result<Option<Seq<HostVal>>, OutOfMemory>
-    ensures { IfOk result (λ vals. vals ≡ vals_of (items_view list.now)) }
+    ensures { IfOk result (λ vals. vals ≡ each_of decode_val (items_view list.now)) }
 {
     let mut vals = Seq::new(alloc);
     for value in list {
@@ -319,34 +309,24 @@ fn vals_of(alloc: Global, list: &[Value]) -> Result<Option<Seq<HostVal>>, OutOfM
     Ok(Some(vals))
 }
 
-/// A value type: the string of its name.
+/// A value type: a number or a vector.
 fn decode_val(value: &Value) -> Option<HostVal>
     ensures { result ≡ decode_val (view value.now) }
 {
-    value.as_str().and_then(val_named)
+    decode_number(value).and_then(host_val)
 }
 
-/// The value type with a name.
-fn val_named(name: &str) -> Option<HostVal>
-    ensures { result ≡ val_named name.now }
+/// A number or vector type as a command of the host names it; `None` for a reference.
+fn host_val(val: WasmValType) -> Option<HostVal>
+    ensures { result ≡ host_val val }
 {
-    match name {
-        "i32" => Some(HostVal::I32),
-        "i64" => Some(HostVal::I64),
-        "f32" => Some(HostVal::F32),
-        "f64" => Some(HostVal::F64),
-        "v128" => Some(HostVal::V128),
-        _ => None,
-    }
-}
-
-/// How many members an object has; none where the value is no object.
-fn key_count(value: &Value) -> usize
-    ensures { result ≡ key_count (view value.now) }
-{
-    match value.as_object() {
-        Some(members) => members.len(),
-        None => 0,
+    match val {
+        WasmValType::I32 => Some(HostVal::I32),
+        WasmValType::I64 => Some(HostVal::I64),
+        WasmValType::F32 => Some(HostVal::F32),
+        WasmValType::F64 => Some(HostVal::F64),
+        WasmValType::V128 => Some(HostVal::V128),
+        WasmValType::Ref(_) => None,
     }
 }
 
@@ -454,16 +434,18 @@ mod tests {
     #[test]
     fn reads_each_name(rt: HostRuntime) -> Result<(), Fail> {
         let rows = [
-            ("i32", Some(HostVal::I32)),
-            ("i64", Some(HostVal::I64)),
-            ("f32", Some(HostVal::F32)),
-            ("f64", Some(HostVal::F64)),
-            ("v128", Some(HostVal::V128)),
-            ("I32", None),
-            ("", None),
+            (r#""i32""#, Some(HostVal::I32)),
+            (r#""i64""#, Some(HostVal::I64)),
+            (r#""f32""#, Some(HostVal::F32)),
+            (r#""f64""#, Some(HostVal::F64)),
+            (r#""v128""#, Some(HostVal::V128)),
+            (r#""I32""#, None),
+            (r#""anyref""#, None),
+            (r#""""#, None),
         ];
-        for (name, want) in rows {
-            assert_eq!(rt; val_named(name), want, "at {name}");
+        for (text, want) in rows {
+            let value = Value::from_str(rt.alloc(), text)?;
+            assert_eq!(rt; decode_val(&value), want, "at {text}");
         }
         Ok(())
     }

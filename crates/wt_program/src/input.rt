@@ -4,6 +4,7 @@ ghost use Rattle.std.specs.Prelude.{◌≡◌, ◌≢◌, ℕ, ◌^◌, ◌<◌,
 ghost use Rattle.serde_json.specs.View.{view};
 ghost use Rattle.wt_env.specs.Stream.{IsTaken, Rose};
 ghost use Rattle.wt_program.specs.Program.{IsReadToEnd, IsJson, IsNotJson, Decodes, IsBadAt, HasCommands};
+ghost use Rattle.wt_session.specs.World.{AreCommands};
 
 use crate::decode::{DecodeError, decode};
 use crate::read::{ReadRefusal, read_all};
@@ -48,6 +49,7 @@ fn parse(alloc: Global, bytes: &[u8]) -> Result<Value, InputRefusal>
 /// The commands of a JSON text.
 fn commands_in(alloc: Global, bytes: &[u8]) -> Result<Vec<Command>, InputRefusal>
     ensures ok { IfOk result (λ commands. Decodes bytes.now commands.items) }
+    ensures commands { length bytes.now < 2 ^ 32 → IfOk result (λ commands. AreCommands commands.items) }
     ensures not_json { result ≡ Err InputRefusal.NotJson → IsNotJson bytes.now }
     ensures bad { (place : ℕ) → result ≡ Err (InputRefusal.BadCommand place) → IsBadAt bytes.now place }
     ensures no_fault { result ≢ Err InputRefusal.ReadFault }
@@ -64,6 +66,7 @@ fn commands_in(alloc: Global, bytes: &[u8]) -> Result<Vec<Command>, InputRefusal
 /// Reads a source to its end, and decodes what it had.
 pub fn read_commands<S: Source>(alloc: Global, source: &mut S) -> Result<Vec<Command>, InputRefusal>
     ensures ok { IfOk result (λ commands. HasCommands (S.left source.old) (S.left source.new) commands.items) }
+    ensures commands { IfOk result (λ commands. AreCommands commands.items) }
     ensures fault { result ≡ Err InputRefusal.ReadFault → Rose (S.faults source.old) (S.faults source.new) }
     ensures too_long { result ≡ Err InputRefusal.TooLong
         → ((bytes : List ℕ) × IsTaken bytes (S.left source.old) (S.left source.new) × (2 ^ 24 < length bytes)) }

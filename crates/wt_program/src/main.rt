@@ -13,6 +13,7 @@ mod words;
 mod write;
 
 use crate::run::run;
+use crate::words::words_unread;
 use std::alloc::Global;
 use std::env::Env;
 use std::process::ExitCode;
@@ -24,13 +25,16 @@ use wt_env::text::Text;
 
 /// The words after the program's name. Words that aren't text are no words of the program.
 fn arguments<R: Env + AllocGlobal>(rt: &R) -> Result<Vec<Text>, OutOfMemory> {
-    let mut words = Vec::new(rt.alloc());
-    if let Ok(arguments) = env::args(rt) {
-        for argument in arguments.skip(1) {
-            words.push(Text::from_string(argument))?;
+    match env::args(rt) {
+        Ok(arguments) => {
+            let mut words = Vec::new(rt.alloc());
+            for argument in arguments.skip(1) {
+                words.push(Text::from_string(argument))?;
+            }
+            Ok(words)
         }
+        Err(error) => words_unread(rt.alloc(), error.kind()),
     }
-    Ok(words)
 }
 
 fn main(rt: HostRuntime) -> ExitCode {

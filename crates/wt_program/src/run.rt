@@ -4,6 +4,7 @@ ghost use Rattle.std.specs.Prelude.{◌≡◌, ◌≢◌, ℕ, ◌^◌, ◌<◌,
 ghost use Rattle.wt_env.specs.Stream.{IsTaken, IsAdded, Rose};
 ghost use Rattle.wt_program.specs.Words.{IsRun};
 ghost use Rattle.wt_program.specs.Program.{output_of, status_for, Runs, IsComplete, IsReadToEnd, IsNotJson, Decodes, IsBadAt, HasCommands};
+ghost use Rattle.wt_session.specs.World.{AreCommands};
 
 use crate::input::{InputRefusal, read_commands};
 use crate::text::text;
@@ -15,18 +16,15 @@ use wt_env::memory::OutOfMemory;
 use wt_env::status::Status;
 use wt_env::stream::{Sink, Source};
 use wt_env::text::Text;
-use wt_session::command::{Command, are_commands};
+use wt_session::command::Command;
 use wt_session::run::run_session;
 use wt_session::session::Session;
 
-/// The lines for commands, each done by a new session. Decoded types refer to each other by module index,
-/// and no list of a text of at most 16 MiB has 2^32 elements, so no decoded command is unfit.
+/// The lines for commands, each done by a new session.
 fn output(alloc: Global, commands: &[Command]) -> Result<String, OutOfMemory>
+    requires { AreCommands commands.now }
     ensures { IfOk result (λ text. string_bytes text ≡ output_of commands.now) }
 {
-    if !are_commands(commands) {
-        return Err(OutOfMemory);
-    }
     let mut session = Session::new(alloc, Engine::new(1, EngineLimits::USUAL, true));
     let mut replies = Vec::new(alloc);
     let outcome = run_session(&mut session, commands, &mut replies);
@@ -50,6 +48,7 @@ fn status_of(refusal: InputRefusal) -> Status
 
 /// Does commands in a new session, and writes a line for each reply.
 fn answer<K: Sink>(alloc: Global, commands: &[Command], sink: &mut K) -> Status
+    requires { AreCommands commands.now }
     ensures done { result ≡ Status.Done → IsAdded (output_of commands.now) (K.taken sink.old) (K.taken sink.new) }
     ensures write_fault { result ≡ Status.WriteFault → Rose (K.faults sink.old) (K.faults sink.new) }
     ensures partly { result ≡ Status.WriteFault

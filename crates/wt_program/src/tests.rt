@@ -200,6 +200,20 @@ const MUTUAL_TWICE: (&str, &str) = (
     "module 0 indices 0 1\nmodule 0 indices 0 1\nlive 1 #1[0 1]\nreleased\nlive 1 #1[0 1]\nreleased\nlive 0\n",
 );
 
+/// A party may hold one group by two modules, and it stays until both are released.
+const MUTUAL_TWICE_BY_ONE: (&str, &str) = (
+    r#"[
+        {"do":"module","groups":[[{"struct":[{"ref":{"struct":1}}]},{"struct":[{"mut":{"ref":{"struct":0}}}]}]]},
+        {"do":"module","groups":[[{"struct":[{"ref":{"struct":1}}]},{"struct":[{"mut":{"ref":{"struct":0}}}]}]]},
+        {"do":"live"},
+        {"do":"release","handle":0},
+        {"do":"live"},
+        {"do":"release","handle":1},
+        {"do":"live"}
+    ]"#,
+    "module 0 indices 0 1\nmodule 1 indices 0 1\nlive 1 #1[0 1]\nreleased\nlive 1 #1[0 1]\nreleased\nlive 0\n",
+);
+
 /// A group stays while one that is held names it, and goes with that one.
 const KEPT_BY_A_ROOT: (&str, &str) = (
     r#"[
@@ -260,6 +274,7 @@ const HANDLES_ON_MODULES: (&str, &str) = (
 fn answers_on_modules(rt: HostRuntime) -> Result<(), Fail> {
     let rows = [
         MUTUAL_TWICE,
+        MUTUAL_TWICE_BY_ONE,
         KEPT_BY_A_ROOT,
         FORWARD,
         ANOTHER_KIND,

@@ -7,9 +7,10 @@ ghost use Rattle.wt_program.specs.Text.{limit_word, indices_text, group_text, wo
 use std::alloc::Global;
 use wt_env::limits::Limit;
 use wt_env::memory::OutOfMemory;
-use wt_registry::debt::Swept;
 use wt_registry::live::LiveGroup;
-use wt_registry::refusal::{Full, Place, Rule};
+use wt_registry::place::{Place, Rule};
+use wt_registry::refusal::Full;
+use wt_registry::swept::Swept;
 use wt_session::reply::{HandleKind, Refusal, Reply};
 
 fn limit_word(limit: Limit) -> &'static str

@@ -1,37 +1,46 @@
 -- What is kept true of all that is registered, where nothing is changed and where a plan is carried out.
 use Rattle.std.proofs.Common.{◌≡◌, ℕ, ◌+◌, ◌<◌, ◌≤◌, ◌==◌, ◌⊎◌, inl, inr, Bool, true, false, cond, nat_lt, List, [], ◌∷◌, ◌++◌, length, map, None, refl, sym, ap, subst, ◌∙◌, ⊎_elim, arith}
 use Rattle.std.proofs.lemmas.List.{length-append, length-map}
+use Rattle.wt_env.specs.Among.{Among}
 use Rattle.wt_env.specs.Limits.{EngineParts}
-use Rattle.wt_env.specs.declared.limits.Limit.TheVariants.{Groups as GroupsLimit, Holds}
-use Rattle.wt_registry.specs.declared.entry.Entry.{Entry}
-use Rattle.wt_registry.specs.declared.entry.Given.{Given}
-use Rattle.wt_registry.specs.declared.groups.Groups.{Groups}
-use Rattle.wt_registry.specs.declared.plan.Plan.{Plan as PlanFields}
-use Rattle.wt_registry.specs.declared.refusal.Full.{Full}
-use Rattle.wt_registry.specs.Registry.{Standing, Registry, Among, first_full, held_at}
-use Rattle.wt_registry.specs.Sound.{AreCounted, StandIn}
-use Rattle.wt_registry.specs.Counts.{standings_of}
-use Rattle.wt_registry.specs.Entries.{made_of, made_by}
-use Rattle.wt_registry.specs.Keys.{AreKeys}
-use Rattle.wt_registry.specs.Kept.{AreKept, AreShown}
-use Rattle.wt_registry.specs.Plan.{times, hold_each, wanted_of, holds_wanted}
-use Rattle.wt_registry.specs.Planned.{planned_standing, called_by, plan_of, Occurs}
-use Rattle.wt_registry.proofs.Called.{held_at-called_by}
-use Rattle.wt_registry.proofs.CarriedOut.{carried-stand_in}
-use Rattle.wt_registry.proofs.Counted.{counted, held_at-bounded}
-use Rattle.wt_registry.proofs.HoldsWanted.{held_at-with_planned}
-use Rattle.wt_registry.proofs.Lists.{among_behind, among_either, find-none}
+use Rattle.wt_env.specs.declared.limits.EngineLimits.{EngineLimits}
+use Rattle.wt_env.specs.declared.limits.Limit.TheVariants as limit
+use Rattle.wt_env.specs.declared.types.VMSharedTypeIndex.{VMSharedTypeIndex}
+use Rattle.wt_env.proofs.lists.Mapped.{among_map}
+use Rattle.wt_env.proofs.lists.Members.{among_behind, among_before, among_either, find-none}
+use Rattle.wt_model.specs.declared.ever.EverRegistered.{EverRegistered}
+use Rattle.wt_model.specs.declared.refusal.Full.{Full}
+use Rattle.wt_model.specs.Registered.{RegisteredGroup, Registry}
+use Rattle.wt_model.specs.Indices.{used}
+use Rattle.wt_model.specs.Holds.{held_at, times, hold_each}
+use Rattle.wt_model.specs.Plan.{Plan, Occurs, groups_of}
+use Rattle.wt_model.specs.Limits.{first_full, wanted_of, holds_wanted, passed_limit}
+use Rattle.wt_model.specs.Registration.{new_holds, stop_waiting_each, carried_out}
+use Rattle.wt_model.specs.Sound.{IsRising, NamesOlder, AreBelow, AreCounted, HoldsInvariant}
+use Rattle.wt_model.proofs.plan.CarriedOut.{CanCarryOut, carried-holds}
+use Rattle.wt_keys.specs.declared.entry.RecGroupEntry.{RecGroupEntry}
+use Rattle.wt_keys.specs.Entries.{made_of, made_by}
+use Rattle.wt_keys.specs.Keys.{AreKeys, AreShown}
+use Rattle.wt_keys.proofs.AddedKeys.{names_older}
+use Rattle.wt_plan.specs.declared.plan.Plan.{Plan as PlanFields}
+use Rattle.wt_plan.specs.Planned.{plan_of, AreNewBelow}
+use Rattle.wt_plan.proofs.Planning.{groups_of-joined}
+use Rattle.wt_holds.specs.declared.inner.TypeRegistryInner.{TypeRegistryInner}
+use Rattle.wt_holds.specs.Counts.{standings_of}
+use Rattle.wt_holds.specs.Kept.{AreKept, registry_at}
+use Rattle.wt_holds.proofs.Counted.{held_at-bounded}
 
 -- the same entries, counts, marks and numbers are kept as they were
-pub kept-same : (engine : EngineParts) (old new : Groups) → AreKept engine old → new.entries.items ≡ old.entries.items → new.counts.items ≡ old.counts.items
+pub kept-same : (engine : EngineParts) (old new : TypeRegistryInner) → AreKept engine old → new.entries.items ≡ old.entries.items → new.counts.items ≡ old.counts.items
     → new.marks.items ≡ old.marks.items → new.given ≡ old.given → AreKept engine new
 kept-same engine old new kept entries counts marks given = record {
-  keys = subst (λ (list : List Entry). AreKeys list new.given.numbers) (sym entries) (subst (λ (g : Given). AreKeys old.entries.items g.numbers) (sym given) kept.keys);
+  keys = subst (λ (list : List RecGroupEntry). AreKeys list new.given.numbers) (sym entries) (subst (λ (g : EverRegistered). AreKeys old.entries.items g.numbers) (sym given) kept.keys);
   shown = subst AreShown (sym entries) kept.shown;
-  within = subst (λ (list : List Entry). length list ≤ engine.limits.groups) (sym entries) kept.within;
+  within = subst (λ (list : List RecGroupEntry). length list ≤ engine.limits.groups) (sym entries) kept.within;
+  below = subst (λ (list : List RecGroupEntry). AreBelow engine.limits.types (made_by list)) (sym entries) kept.below;
   marks = ap length marks ∙ kept.marks ∙ ap length (sym entries);
-  stand_in = subst (λ (list : List Entry). StandIn engine (made_by list) (standings_of new.counts.items)) (sym entries)
-      (subst (λ standings. StandIn engine (made_by old.entries.items) standings) (ap standings_of (sym counts)) kept.stand_in);
+  holds = subst (λ (list : List RecGroupEntry). HoldsInvariant engine (made_by list) (standings_of new.counts.items)) (sym entries)
+      (subst (λ standings. HoldsInvariant engine (made_by old.entries.items) standings) (ap standings_of (sym counts)) kept.holds);
 }
 
 -- ---- no limit is passed
@@ -43,23 +52,37 @@ not_above bound wanted h = grind (arith, h)
 none_above : (wanted : List Full) → first_full wanted ≡ None → (full : Full) → Among full wanted → full.wanted ≤ full.bound
 none_above wanted none full at = not_above full.bound full.wanted (find-none (λ (f : Full). nat_lt f.bound f.wanted) wanted none full at)
 
-groups_within : (registry : Registry) (more : List Full) → first_full (wanted_of registry ++ more) ≡ None → length registry.made ≤ registry.engine.limits.groups
-groups_within registry more none =
-    none_above (wanted_of registry ++ more) none (record { limit = GroupsLimit; bound = registry.engine.limits.groups; wanted = length registry.made }) (inl refl)
+module _ (registry : Registry) (party : ℕ) (plan : Plan) (none : passed_limit registry party plan ≡ None) where
+  abbrev limits : EngineLimits
+  limits = registry.engine.limits
 
-wanted_for : (registry : Registry) (party : ℕ) (numbers rest : List ℕ) (n : ℕ) → Among n rest
-    → Among (record { limit = Holds; bound = registry.engine.limits.holds; wanted = held_at registry.standings party n + times n numbers }) (holds_wanted registry party numbers rest)
-wanted_for registry party numbers [] n at = absurd at
-wanted_for registry party numbers (m ∷ rest) n (inl same) =
-    inl (ap (λ (k : ℕ). record { limit = Holds; bound = registry.engine.limits.holds; wanted = held_at registry.standings party k + times k numbers }) same)
-wanted_for registry party numbers (m ∷ rest) n (inr later) = inr (wanted_for registry party numbers rest n later)
+  abbrev counted_limits : List Full
+  counted_limits = wanted_of limits (groups_of plan) plan.given.numbers
 
-holds_within : (registry : Registry) (party : ℕ) (numbers : List ℕ) (before : List Full) → first_full (before ++ holds_wanted registry party numbers numbers) ≡ None
-    → (n : ℕ) → Among n numbers → held_at registry.standings party n + times n numbers ≤ registry.engine.limits.holds
-holds_within registry party numbers before none n at =
-    let full : Full = record { limit = Holds; bound = registry.engine.limits.holds; wanted = held_at registry.standings party n + times n numbers } in
-    none_above (before ++ holds_wanted registry party numbers numbers) none full
-    (among_behind before (holds_wanted registry party numbers numbers) full (wanted_for registry party numbers numbers n at))
+  abbrev held_limits : List Full
+  held_limits = holds_wanted limits registry.standings party plan.numbers plan.numbers
+
+  pub groups_within : length (groups_of plan) ≤ registry.engine.limits.groups
+  groups_within =
+      none_above (counted_limits ++ held_limits) none (record { limit = limit.Groups; bound = limits.groups; wanted = length (groups_of plan) })
+      (among_before counted_limits held_limits (record { limit = limit.Groups; bound = limits.groups; wanted = length (groups_of plan) }) (inl refl))
+
+  pub types_within : length (used (groups_of plan)) ≤ registry.engine.limits.types
+  types_within =
+      none_above (counted_limits ++ held_limits) none (record { limit = limit.Types; bound = limits.types; wanted = length (used (groups_of plan)) })
+      (among_before counted_limits held_limits (record { limit = limit.Types; bound = limits.types; wanted = length (used (groups_of plan)) }) (inr (inl refl)))
+
+  wanted_for : (rest : List ℕ) (n : ℕ) → Among n rest
+      → Among (record { limit = limit.Holds; bound = limits.holds; wanted = held_at registry.standings party n + times n plan.numbers }) (holds_wanted limits registry.standings party plan.numbers rest)
+  wanted_for [] n at = absurd at
+  wanted_for (m ∷ rest) n (inl same) =
+      inl (ap (λ (k : ℕ). record { limit = limit.Holds; bound = limits.holds; wanted = held_at registry.standings party k + times k plan.numbers }) same)
+  wanted_for (m ∷ rest) n (inr later) = inr (wanted_for rest n later)
+
+  pub holds_within : (n : ℕ) → Among n plan.numbers → held_at registry.standings party n + times n plan.numbers ≤ registry.engine.limits.holds
+  holds_within n at =
+      let full : Full = record { limit = limit.Holds; bound = limits.holds; wanted = held_at registry.standings party n + times n plan.numbers } in
+      none_above (counted_limits ++ held_limits) none full (among_behind counted_limits held_limits full (wanted_for plan.numbers n at))
 
 occurs_or_not : (n : ℕ) (numbers : List ℕ) → Among n numbers ⊎ (times n numbers ≡ 0)
 occurs_or_not n [] = inr refl
@@ -71,53 +94,70 @@ occurs_or_not n (m ∷ numbers) = by (m == n) refl (occurs_or_not n numbers)
     by false e (inr none) = inr none
 
 -- where a plan passes no limit, the party may have all its holds
-pub room-left : (engine : EngineParts) (entries : List Entry) (standings : List Standing) (plan : PlanFields) (party : ℕ) → AreCounted engine standings
-    → first_full (wanted_of (plan_of engine entries standings plan).registry ++ holds_wanted (plan_of engine entries standings plan).registry party plan.numbers.items plan.numbers.items) ≡ None
-    → (number : ℕ) → held_at standings party number + times number plan.numbers.items ≤ engine.limits.holds
-room-left engine entries standings plan party are none number = by (occurs_or_not number plan.numbers.items)
+pub room-left : (registry : Registry) (party : ℕ) (plan : Plan) → AreCounted registry.engine registry.standings → passed_limit registry party plan ≡ None
+    → (number : ℕ) → held_at registry.standings party number + times number plan.numbers ≤ registry.engine.limits.holds
+room-left registry party plan are none number = by (occurs_or_not number plan.numbers)
   where
-    registry : Registry
-    registry = (plan_of engine entries standings plan).registry
-
-    same : held_at registry.standings party number ≡ held_at standings party number
-    same = held_at-with_planned engine (called_by plan.added.items standings) plan.added.items party number ∙ held_at-called_by plan.added.items standings party number
-
-    by : Among number plan.numbers.items ⊎ (times number plan.numbers.items ≡ 0) → held_at standings party number + times number plan.numbers.items ≤ engine.limits.holds
-    by (inl at) =
-        let within = holds_within registry party plan.numbers.items (wanted_of registry) none number at in
-        let equal = same in
-        omega (arith, within, equal)
+    by : Among number plan.numbers ⊎ (times number plan.numbers ≡ 0) → held_at registry.standings party number + times number plan.numbers ≤ registry.engine.limits.holds
+    by (inl at) = holds_within registry party plan none number at
     by (inr never) =
-        let bounded = held_at-bounded engine standings party number are in
+        let bounded = held_at-bounded registry.engine registry.standings party number are in
         omega (arith, bounded, never)
 
 -- ---- a plan that is carried out
 
-pub kept-carried : (engine : EngineParts) (old new : Groups) (plan : PlanFields) (party : ℕ) → AreKept engine old → party < engine.limits.parties
-    → AreKeys (old.entries.items ++ plan.added.items) plan.given.numbers → AreShown plan.added.items → Occurs (old.entries.items ++ plan.added.items) plan.added.items plan.numbers.items
-    → first_full (wanted_of (plan_of engine old.entries.items (standings_of old.counts.items) plan).registry ++ holds_wanted (plan_of engine old.entries.items (standings_of old.counts.items) plan).registry party plan.numbers.items plan.numbers.items) ≡ None
-    → new.entries.items ≡ old.entries.items ++ plan.added.items → new.given ≡ plan.given → length new.marks.items ≡ length old.marks.items + length plan.added.items
-    → standings_of new.counts.items ≡ hold_each party plan.numbers.items (called_by plan.added.items (standings_of old.counts.items) ++ map (planned_standing engine) plan.added.items)
-    → AreKept engine new
-kept-carried engine old new plan party kept within keys shown occurs none entries given marks counts =
-    let added = plan.added.items in
-    let all = old.entries.items ++ added in
-    let standings = standings_of old.counts.items in
-    let registry : Registry = (plan_of engine old.entries.items standings plan).registry in
-    let room = room-left engine old.entries.items standings plan party (counted engine (made_by old.entries.items) standings kept.stand_in) none in
-    let grouped = groups_within registry (holds_wanted registry party plan.numbers.items plan.numbers.items) none in
-    let so_many : length registry.made ≡ length new.entries.items = length-map all made_of ∙ ap length (sym entries) in
-    let longer : length new.entries.items ≡ length old.entries.items + length added = ap length entries ∙ length-append old.entries.items added in
-    let marked = kept.marks in
-    record {
-      keys = subst (λ (list : List Entry). AreKeys list new.given.numbers) (sym entries) (subst (λ (g : Given). AreKeys all g.numbers) (sym given) keys);
-      shown = subst AreShown (sym entries) shown_all;
-      within = omega (arith, grouped, so_many);
-      marks = omega (arith, marks, longer, marked);
-      stand_in = subst (λ (list : List Entry). StandIn engine (made_by list) (standings_of new.counts.items)) (sym entries)
-          (subst (λ after. StandIn engine (made_by all) after) (sym counts)
-          (carried-stand_in engine old.entries.items added old.given.numbers plan.given.numbers standings party plan.numbers.items kept.keys keys kept.stand_in occurs within room));
-    }
-  where
-    shown_all : AreShown (old.entries.items ++ plan.added.items)
-    shown_all entry at = ⊎_elim (kept.shown entry) (shown entry) (among_either old.entries.items plan.added.items entry at)
+module _ (engine : EngineParts) (old : TypeRegistryInner) (plan : PlanFields) (party : ℕ) (kept : AreKept engine old) (within : party < engine.limits.parties)
+    (keys : AreKeys (old.entries.items ++ plan.added.items) plan.given.numbers) (occurs : Occurs (plan_of old.entries.items plan))
+    (none : passed_limit (registry_at engine old) party (plan_of old.entries.items plan) ≡ None) where
+  joined : groups_of (plan_of old.entries.items plan) ≡ made_by (old.entries.items ++ plan.added.items)
+  joined = groups_of-joined old.entries.items plan
+
+  pub can-carry : CanCarryOut engine (made_by old.entries.items) (made_by plan.added.items) (standings_of old.counts.items) party plan.numbers.items
+  can-carry = record {
+    top = old.given.numbers;
+    rising = kept.keys.rising;
+    older = names_older old.entries.items old.given.numbers kept.keys;
+    more_top = plan.given.numbers;
+    more_rising = subst (λ (made : List RegisteredGroup). IsRising 0 made plan.given.numbers) (sym joined) keys.rising;
+    more_older = subst NamesOlder (sym joined) (names_older (old.entries.items ++ plan.added.items) plan.given.numbers keys);
+    holds = kept.holds;
+    every = occurs.every;
+    only = occurs.only;
+    within = within;
+    room = room-left (registry_at engine old) party (plan_of old.entries.items plan) kept.holds.counted none;
+  }
+
+  module _ (new : TypeRegistryInner) (entries : new.entries.items ≡ old.entries.items ++ plan.added.items) (given : new.given ≡ plan.given)
+      (counts : standings_of new.counts.items ≡ hold_each party plan.numbers.items (stop_waiting_each (made_by plan.added.items) (standings_of old.counts.items) ++ map (new_holds engine) (made_by plan.added.items))) where
+    made-new : groups_of (plan_of old.entries.items plan) ≡ made_by new.entries.items
+    made-new = joined ∙ ap made_by (sym entries)
+
+    -- the registry that it comes to
+    pub carried-at : carried_out (registry_at engine old) party (plan_of old.entries.items plan) ≡ registry_at engine new
+    carried-at = λ i. record { engine = engine; made = made-new i; given = (sym given) i; standings = (sym counts) i }
+
+    pub kept-carried : AreShown plan.added.items → AreNewBelow old.entries.items plan.added.items → length new.marks.items ≡ length old.marks.items + length plan.added.items → AreKept engine new
+    kept-carried shown below marks =
+        let grouped = groups_within (registry_at engine old) party (plan_of old.entries.items plan) none in
+        let so_many : length (groups_of (plan_of old.entries.items plan)) ≡ length new.entries.items = ap length made-new ∙ length-map new.entries.items made_of in
+        let longer : length new.entries.items ≡ length old.entries.items + length plan.added.items = ap length entries ∙ length-append old.entries.items plan.added.items in
+        let marked = kept.marks in
+        record {
+          keys = subst (λ (list : List RecGroupEntry). AreKeys list new.given.numbers) (sym entries) (subst (λ (g : EverRegistered). AreKeys (old.entries.items ++ plan.added.items) g.numbers) (sym given) keys);
+          shown = subst AreShown (sym entries) (λ entry at. ⊎_elim (kept.shown entry) (shown entry) (among_either old.entries.items plan.added.items entry at));
+          within = omega (arith, grouped, so_many);
+          below = subst (AreBelow engine.limits.types) made-new (λ a i at there. all_below a i (among_either (made_by old.entries.items) (made_by plan.added.items) a at) there);
+          marks = omega (arith, marks, longer, marked);
+          holds = subst (λ (made : List RegisteredGroup). HoldsInvariant engine made (standings_of new.counts.items)) made-new
+              (subst (λ after. HoldsInvariant engine (groups_of (plan_of old.entries.items plan)) after) (sym counts)
+              (carried-holds engine (made_by old.entries.items) (made_by plan.added.items) (standings_of old.counts.items) party plan.numbers.items can-carry));
+        }
+      where
+        all_below : (a : RegisteredGroup) (i : VMSharedTypeIndex) → Among a (made_by old.entries.items) ⊎ Among a (made_by plan.added.items) → Among i a.indices → i.0 < engine.limits.types
+        all_below a i (inl before) there = kept.below a i before there
+        all_below a i (inr is_new) there =
+            let named = among_map made_of plan.added.items a is_new in
+            let own = below named.0 i named.1 (subst (λ (m : RegisteredGroup). Among i m.indices) named.2 there) in
+            let few = types_within (registry_at engine old) party (plan_of old.entries.items plan) none in
+            let same : length (used (groups_of (plan_of old.entries.items plan))) ≡ length (used (made_by (old.entries.items ++ plan.added.items))) = ap (λ made. length (used made)) joined in
+            omega (arith, own, few, same)

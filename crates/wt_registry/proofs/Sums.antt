@@ -1,21 +1,25 @@
 -- How many types and references entries have, and how often a number occurs: of two lists, and of one more at the end.
 use Rattle.std.proofs.Common.{◌≡◌, ◌≢◌, ℕ, ◌+◌, ◌<◌, ◌==◌, Bool, true, false, cond, List, [], ◌∷◌, ◌++◌, length, map, take, get_or, sym, ap, ◌∙◌, arith, eq-eqb}
-use Rattle.std.proofs.lemmas.List.{take_more, map-append, length-append}
+use Rattle.std.proofs.lemmas.List.{take_more, map-append, length-append, length-map}
 use Rattle.std.proofs.lemmas.List.Concat.{flat_map-append}
-use Rattle.wt_registry.specs.declared.entry.Entry.{Entry}
-use Rattle.wt_registry.specs.Registry.{Made, used}
-use Rattle.wt_registry.specs.Entries.{made_of, made_by}
-use Rattle.wt_registry.specs.Plan.{references_of, times}
+use Rattle.wt_keys.specs.declared.entry.RecGroupEntry.{RecGroupEntry}
+use Rattle.wt_model.specs.Registered.{RegisteredGroup}
+use Rattle.wt_model.specs.Indices.{used}
+use Rattle.wt_keys.specs.Entries.{made_of, made_by}
+use Rattle.wt_model.specs.Reach.{edges}
+use Rattle.wt_model.specs.Limits.{references_of}
+use Rattle.wt_model.specs.Holds.{times}
 
-references_of-append : (before more : List Made) → references_of (before ++ more) ≡ references_of before + references_of more
+references_of-append : (before more : List RegisteredGroup) → references_of (before ++ more) ≡ references_of before + references_of more
 references_of-append [] more = omega arith
-references_of-append (made ∷ before) more = ap (λ n. length made.description.outer + n) (references_of-append before more) ∙ omega arith
+references_of-append (made ∷ before) more = ap (λ n. length (edges made) + n) (references_of-append before more) ∙ omega arith
 
 -- a turn of a loop over entries
-pub references_of-turn : (entries : List Entry) (n : ℕ) (entry : Entry) → n < length entries → entry ≡ get_or entries n entry
+pub references_of-turn : (entries : List RecGroupEntry) (n : ℕ) (entry : RecGroupEntry) → n < length entries → entry ≡ get_or entries n entry
     → references_of (made_by (take (n + 1) entries)) ≡ references_of (made_by (take n entries)) + length entry.outer
 references_of-turn entries n entry below is =
-    let here : length (get_or entries n entry).outer ≡ length entry.outer = ap (λ (e : Entry). length e.outer) (sym is) in
+    let here : length (edges (made_of (get_or entries n entry))) ≡ length entry.outer =
+    ap (λ (e : RecGroupEntry). length (edges (made_of e))) (sym is) ∙ length-map entry.outer (λ (reference : ℕ × ℕ). reference.0) in
     ap (λ es. references_of (made_by es)) (take_more entries n entry below)
     ∙ ap references_of (map-append made_of (take n entries) (get_or entries n entry ∷ []))
     ∙ references_of-append (made_by (take n entries)) (made_by (get_or entries n entry ∷ []))
@@ -52,12 +56,12 @@ times-other number numbers n d below other =
 
 -- ---- of two lists
 
-pub types-append : (before more : List Entry) → length (used (made_by (before ++ more))) ≡ length (used (made_by before)) + length (used (made_by more))
+pub types-append : (before more : List RecGroupEntry) → length (used (made_by (before ++ more))) ≡ length (used (made_by before)) + length (used (made_by more))
 types-append before more =
     ap (λ made. length (used made)) (map-append made_of before more)
-    ∙ ap length (flat_map-append (λ (m : Made). map (λ i. i.0) m.indices) (made_by before) (made_by more))
+    ∙ ap length (flat_map-append (λ (m : RegisteredGroup). map (λ i. i.0) m.indices) (made_by before) (made_by more))
     ∙ length-append (used (made_by before)) (used (made_by more))
 
-pub references-append : (before more : List Entry) → references_of (made_by (before ++ more)) ≡ references_of (made_by before) + references_of (made_by more)
+pub references-append : (before more : List RecGroupEntry) → references_of (made_by (before ++ more)) ≡ references_of (made_by before) + references_of (made_by more)
 references-append before more =
     ap references_of (map-append made_of before more) ∙ references_of-append (made_by before) (made_by more)

@@ -14,7 +14,7 @@ pub struct TypeCollection {
 }
 
 impl Model for TypeCollection {
-    ghost use Rattle.wt_registry.specs.Plan.{Collection};
+    ghost use Rattle.wt_model.specs.Holds.{Collection};
 
     ghost Value = { Collection };
 

@@ -1,4 +1,4 @@
-//! What a party owes after a drop, and what a sweep of it answers.
+//! What a party owes after a drop.
 
 use std::marker::Model;
 
@@ -37,15 +37,4 @@ impl Debt {
     pub fn forget(self) {
         let Debt { number: _ } = self;
     }
-}
-
-/// What a sweep did.
-#[derive(Clone, Copy, Debug, PartialEq, Eq)]
-pub enum Swept {
-    /// The group waited and was removed: so many groups left the registry.
-    Removed(u32),
-    /// The group is registered and doesn't wait.
-    Kept,
-    /// That registration is no longer there.
-    Gone,
 }

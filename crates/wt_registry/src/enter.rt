@@ -1,40 +1,49 @@
 //! Registrations that were planned: their limits, the room for them, and then the change.
 
-ghost use Rattle.std.specs.Prelude.{◌≡◌, ℕ, ◌+◌, ◌^◌, ◌<◌, ◌≤◌, ◌++◌, length, map, false, Ok, Err, IfOk, OnOk, OnErr, List, vec_len, vec_capacity};
+ghost use Rattle.std.specs.Prelude.{◌≡◌, ℕ, ◌+◌, ◌^◌, ◌<◌, ◌≤◌, ◌++◌, length, map, false, None, Ok, Err, IfOk, IfErr, OnOk, OnErr, List, option_map, vec_len, vec_capacity};
+ghost use Rattle.wt_env.specs.Among.{Among};
 ghost use Rattle.wt_env.specs.Limits.{EngineParts};
-ghost use Rattle.wt_registry.specs.declared.counts.Count.{Count as CountOf};
-ghost use Rattle.wt_registry.specs.Registry.{Among, held_at, called, change, gained, hold};
-ghost use Rattle.wt_registry.specs.declared.entry.Entry.{Entry as EntryOf};
-ghost use Rattle.wt_registry.specs.declared.entry.Given.{Given as GivenOf};
-ghost use Rattle.wt_registry.specs.Sound.{AreCounted};
-ghost use Rattle.wt_registry.specs.Counts.{standings_of};
-ghost use Rattle.wt_registry.specs.Entries.{registry_of, registry_at};
-ghost use Rattle.wt_registry.specs.Keys.{AreKeys};
-ghost use Rattle.wt_registry.specs.Kept.{AreKept, AreShown};
-ghost use Rattle.wt_registry.specs.Holdings.{Gains};
-ghost use Rattle.wt_registry.specs.Plan.{times, hold_each as held_each, admit};
-ghost use Rattle.wt_registry.specs.Planned.{planned_standing, called_by, plan_of, Occurs};
+ghost use Rattle.wt_model.specs.declared.ever.EverRegistered.{EverRegistered as EverOf};
+ghost use Rattle.wt_model.specs.Reach.{edges};
+ghost use Rattle.wt_model.specs.Holds.{held_at, stop_waiting as no_longer_waits, change, gained, hold, times, hold_each as held_each};
+ghost use Rattle.wt_model.specs.Plan.{Occurs};
+ghost use Rattle.wt_model.specs.Limits.{passed_limit as limit_passed};
+ghost use Rattle.wt_model.specs.Registration.{new_holds, stop_waiting_each as none_waits, carried_out, IsRefusal};
+ghost use Rattle.wt_model.specs.Sound.{AreCounted};
+ghost use Rattle.wt_model.specs.Changes.{HoldChanges};
+ghost use Rattle.wt_keys.specs.declared.entry.RecGroupEntry.{RecGroupEntry as EntryOf};
+ghost use Rattle.wt_keys.specs.Entries.{made_of, made_by};
+ghost use Rattle.wt_keys.specs.Keys.{AreKeys, AreShown};
+ghost use Rattle.wt_plan.specs.Planned.{plan_of, AreNewBelow};
+ghost use Rattle.wt_holds.specs.declared.hold_counts.HoldCounts.{HoldCounts as CountsOf};
+ghost use Rattle.wt_holds.specs.Counts.{standings_of};
+ghost use Rattle.wt_holds.specs.Kept.{AreKept, registry_of, registry_at};
 
-use crate::counts::{Count, gain, held_by, no_holds, set_waits};
-use crate::entry::Entry;
-use crate::groups::Groups;
-use crate::plan::Plan;
-use crate::refusal::{BuildRefusal, Full};
-use crate::wanted::passed;
+use crate::wanted::passed_limit;
 use std::alloc::Global;
 use wt_env::limits::{Engine, Limit};
 use wt_env::memory::OutOfMemory;
 use wt_env::types::VMSharedTypeIndex;
+use wt_holds::hold_counts::{HoldCounts, gain, held_by, no_holds, set_waits};
+use wt_holds::inner::TypeRegistryInner;
+use wt_keys::entry::RecGroupEntry;
+use wt_model::refusal::{BuildRefusal, Full};
+use wt_plan::plan::Plan;
 
 /// The counts of groups that are new.
-fn new_counts(alloc: Global, parties: u64, added: &[Entry]) -> Result<Vec<Count>, OutOfMemory>
+fn new_counts(
+    alloc: Global,
+    parties: u64,
+    added: &[RecGroupEntry],
+) -> Result<Vec<HoldCounts>, OutOfMemory>
     requires { parties ≤ 1024 }
-    ensures { IfOk result (λ counts. (engine : EngineParts) → engine.limits.parties ≡ parties
-        → standings_of counts.items ≡ map (planned_standing engine) added.now) }
+    ensures counts { IfOk result (λ counts. (engine : EngineParts) → engine.limits.parties ≡ parties
+        → standings_of counts.items ≡ map (new_holds engine) (made_by added.now)) }
+    ensures len { IfOk result (λ counts. vec_len counts ≡ length added.now) }
 {
     let mut counts = Vec::new(alloc);
     for entry in added {
-        counts.push(Count {
+        counts.push(HoldCounts {
             number: entry.number,
             holds: no_holds(alloc, parties)?,
             waits: false,
@@ -43,27 +52,27 @@ fn new_counts(alloc: Global, parties: u64, added: &[Entry]) -> Result<Vec<Count>
     Ok(counts)
 }
 
-/// What is referred to doesn't wait.
-fn call(counts: &mut Vec<Count>, outer: &[(u64, u32)])
-    ensures { standings_of counts.new.items ≡ called outer.now (standings_of counts.old.items) }
+/// What an entry's edges lead to doesn't wait.
+fn stop_waiting(counts: &mut Vec<HoldCounts>, entry: &RecGroupEntry)
+    ensures { standings_of counts.new.items ≡ no_longer_waits (edges (made_of entry.now)) (standings_of counts.old.items) }
 {
-    for reference in outer {
+    for reference in entry.outer.as_slice() {
         set_waits(counts, reference.0, false);
     }
 }
 
-/// What new groups refer to doesn't wait.
-fn call_each(counts: &mut Vec<Count>, added: &[Entry])
-    ensures { standings_of counts.new.items ≡ called_by added.now (standings_of counts.old.items) }
+/// What new groups lead to doesn't wait.
+fn stop_waiting_each(counts: &mut Vec<HoldCounts>, added: &[RecGroupEntry])
+    ensures { standings_of counts.new.items ≡ none_waits (made_by added.now) (standings_of counts.old.items) }
 {
     for entry in added {
-        call(counts, entry.outer.as_slice());
+        stop_waiting(counts, entry);
     }
 }
 
 /// One more hold of a party for each time that a group occurs.
-fn hold_each(counts: &mut Vec<Count>, party: u32, numbers: &[u64])
-    requires parties { (count : CountOf) → Among count counts.old.items → party < length count.holds.items }
+fn hold_each(counts: &mut Vec<HoldCounts>, party: u32, numbers: &[u64])
+    requires parties { (count : CountsOf) → Among count counts.old.items → party < length count.holds.items }
     requires room { (number : ℕ) → held_at (standings_of counts.old.items) party number + times number numbers.now < 2 ^ 64 }
     ensures { standings_of counts.new.items ≡ held_each party numbers.now (standings_of counts.old.items) }
 {
@@ -73,7 +82,7 @@ fn hold_each(counts: &mut Vec<Count>, party: u32, numbers: &[u64])
 }
 
 /// Room for so many groups more.
-fn reserve_groups(groups: &mut Groups, more: usize) -> Result<(), OutOfMemory>
+fn reserve_groups(groups: &mut TypeRegistryInner, more: usize) -> Result<(), OutOfMemory>
     ensures entries { groups.new.entries.items ≡ groups.old.entries.items }
     ensures counts { groups.new.counts.items ≡ groups.old.counts.items }
     ensures marks { groups.new.marks.items ≡ groups.old.marks.items }
@@ -110,20 +119,20 @@ fn add_marks(marks: &mut Vec<bool>, more: usize)
 }
 
 /// The change: the new groups stand, and the party has its holds.
-fn commit(
-    groups: &mut Groups,
+fn insert_entries(
+    groups: &mut TypeRegistryInner,
     party: u32,
     plan: Plan,
-    rows: Vec<Count>,
+    rows: Vec<HoldCounts>,
 ) -> (Vec<u64>, Vec<VMSharedTypeIndex>)
     requires entries_room { vec_len groups.old.entries + vec_len plan.added ≤ vec_capacity groups.old.entries }
     requires counts_room { vec_len groups.old.counts + vec_len rows ≤ vec_capacity groups.old.counts }
     requires marks_room { vec_len groups.old.marks + vec_len plan.added ≤ vec_capacity groups.old.marks }
-    requires calm { (count : CountOf) → Among count rows.items → count.waits ≡ false }
-    requires parties { (count : CountOf) → Among count (groups.old.counts.items ++ rows.items) → party < length count.holds.items }
-    requires room { (number : ℕ) → held_at (called_by plan.added.items (standings_of groups.old.counts.items) ++ standings_of rows.items) party number + times number plan.numbers.items < 2 ^ 64 }
+    requires calm { (count : CountsOf) → Among count rows.items → count.waits ≡ false }
+    requires parties { (count : CountsOf) → Among count (groups.old.counts.items ++ rows.items) → party < length count.holds.items }
+    requires room { (number : ℕ) → held_at (none_waits (made_by plan.added.items) (standings_of groups.old.counts.items) ++ standings_of rows.items) party number + times number plan.numbers.items < 2 ^ 64 }
     ensures entries { groups.new.entries.items ≡ groups.old.entries.items ++ plan.added.items }
-    ensures counts { standings_of groups.new.counts.items ≡ held_each party plan.numbers.items (called_by plan.added.items (standings_of groups.old.counts.items) ++ standings_of rows.items) }
+    ensures counts { standings_of groups.new.counts.items ≡ held_each party plan.numbers.items (none_waits (made_by plan.added.items) (standings_of groups.old.counts.items) ++ standings_of rows.items) }
     ensures marks { length groups.new.marks.items ≡ length groups.old.marks.items + length plan.added.items }
     ensures given { groups.new.given ≡ plan.given }
     ensures numbers { result.0.items ≡ plan.numbers.items }
@@ -136,7 +145,7 @@ fn commit(
         map,
     } = plan;
     move_all(&mut groups.counts, rows);
-    call_each(&mut groups.counts, added.as_slice());
+    stop_waiting_each(&mut groups.counts, added.as_slice());
     add_marks(&mut groups.marks, added.len());
     move_all(&mut groups.entries, added);
     groups.given = given;
@@ -144,12 +153,12 @@ fn commit(
     (numbers, map)
 }
 
-/// Carries a plan out for a party, or tells the first limit that it would pass. Answers the group of each
-/// occurrence and the index of each type.
-pub(crate) fn carry_out(
+/// Tests the limits, takes all room, and carries a plan out for a party; or tells the first limit that it would
+/// pass. Answers the group of each occurrence and the index of each type.
+pub(crate) fn check_and_commit(
     alloc: Global,
     engine: &Engine,
-    groups: &mut Groups,
+    groups: &mut TypeRegistryInner,
     party: u32,
     plan: Plan,
 ) -> Result<(Vec<u64>, Vec<VMSharedTypeIndex>), BuildRefusal>
@@ -157,19 +166,18 @@ pub(crate) fn carry_out(
     requires party { party < engine.now.limits.parties }
     requires keys { AreKeys (groups.old.entries.items ++ plan.added.items) plan.given.numbers }
     requires shown { AreShown plan.added.items }
-    requires occurs { Occurs (groups.old.entries.items ++ plan.added.items) plan.added.items plan.numbers.items }
-    ensures ok { OnOk result (admit party (plan_of engine.now groups.old.entries.items (standings_of groups.old.counts.items) plan) ≡ Ok (registry_at engine.now groups.new)) }
+    requires below { AreNewBelow groups.old.entries.items plan.added.items }
+    requires occurs { Occurs (plan_of groups.old.entries.items plan) }
+    ensures accepted { OnOk result (limit_passed (registry_at engine.now groups.old) party (plan_of groups.old.entries.items plan) ≡ None) }
+    ensures ok { OnOk result (carried_out (registry_at engine.now groups.old) party (plan_of groups.old.entries.items plan) ≡ registry_at engine.now groups.new) }
     ensures numbers { IfOk result (λ held. held.0.items ≡ plan.numbers.items) }
     ensures map { IfOk result (λ held. held.1.items ≡ plan.map.items) }
-    ensures gains { IfOk result (λ held. Gains (registry_at engine.now groups.old) (registry_at engine.now groups.new) party held.0.items) }
-    ensures full { (full : _) → result ≡ Err (BuildRefusal.Full full)
-        → admit party (plan_of engine.now groups.old.entries.items (standings_of groups.old.counts.items) plan) ≡ Err full }
-    ensures valid { (place : _) (rule : _) → result ≡ Err (BuildRefusal.InvalidModule place rule) → ⊥ }
-    ensures has_gc { result ≡ Err BuildRefusal.NoGc → ⊥ }
+    ensures changes { IfOk result (λ held. HoldChanges (registry_at engine.now groups.old) (registry_at engine.now groups.new) party held.0.items) }
+    ensures refused { IfErr result (λ why. IsRefusal (option_map BuildRefusal.Full (limit_passed (registry_at engine.now groups.old) party (plan_of groups.old.entries.items plan))) why) }
     ensures err { OnErr result (registry_at engine.now groups.new ≡ registry_at engine.now groups.old) }
     ensures kept { AreKept engine.now groups.new }
 {
-    let found = passed(
+    let found = passed_limit(
         engine,
         groups.entries.as_slice(),
         groups.counts.as_slice(),
@@ -181,24 +189,24 @@ pub(crate) fn carry_out(
     }
     let rows = new_counts(alloc, engine.limits().parties, plan.added.as_slice())?;
     reserve_groups(groups, plan.added.len())?;
-    Ok(commit(groups, party, plan, rows))
+    Ok(insert_entries(groups, party, plan, rows))
 }
 
 /// One more hold of a party on a registered group. It takes no memory.
 pub(crate) fn hold_one(
     engine: &Engine,
-    counts: &mut Vec<Count>,
+    counts: &mut Vec<HoldCounts>,
     party: u32,
     number: u64,
 ) -> Result<(), Full>
     requires party { party < engine.now.limits.parties }
     requires counted { AreCounted engine.now (standings_of counts.old.items) }
-    ensures ok { OnOk result ((entries : List EntryOf) (given : GivenOf)
+    ensures ok { OnOk result ((entries : List EntryOf) (given : EverOf)
         → hold (registry_of engine.now entries given (standings_of counts.old.items)) party number
         ≡ Ok (registry_of engine.now entries given (standings_of counts.new.items))) }
     ensures allowed { OnOk result ((held_at (standings_of counts.old.items) party number + 1 ≤ engine.now.limits.holds)
         × (standings_of counts.new.items ≡ change number (gained party) (standings_of counts.old.items))) }
-    ensures full { (full : _) → result ≡ Err full → (entries : List EntryOf) (given : GivenOf)
+    ensures full { (full : _) → result ≡ Err full → (entries : List EntryOf) (given : EverOf)
         → hold (registry_of engine.now entries given (standings_of counts.old.items)) party number ≡ Err full }
     ensures err { OnErr result (counts.new.items ≡ counts.old.items) }
 {

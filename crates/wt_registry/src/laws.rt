@@ -1,7 +1,8 @@
 //! Facts that follow from the contracts, each carried by a call.
 
 ghost use Rattle.std.specs.Prelude.{◌≡◌, ◌↔◌, IsTrue, IsSome};
-ghost use Rattle.wt_registry.specs.Registry.{locate, closed_tree, hold_feed};
+ghost use Rattle.wt_model.specs.Indices.{locate, closed_tree};
+ghost use Rattle.wt_model.specs.Holds.{hold_feed};
 
 use crate::registered_type::RegisteredType;
 use crate::registry::TypeRegistry;

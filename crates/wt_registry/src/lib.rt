@@ -2,20 +2,13 @@
 //! Equal groups are one group, whoever registers them.
 #![tactic(auto)]
 
+pub use wt_model::{handle_kind, live, refusal, swept};
+pub use wt_rules::{place, rules};
+
 pub mod collection;
-pub mod counts;
 pub mod debt;
 mod enter;
-pub mod entry;
-pub mod groups;
 pub mod laws;
-pub mod live;
-pub mod plan;
-mod reach;
-pub mod refusal;
 pub mod registered_type;
 pub mod registry;
-mod search;
-mod sweeping;
-pub mod validity;
 mod wanted;

@@ -1,15 +1,15 @@
 //! Holds of registered types, and the parties that have them.
 
-ghost use Rattle.std.specs.Prelude.{◌≡◌, ◌<◌, ◌≤◌, [], ◌∷◌, IfOk, OnErr, Ok, Err, Some, true};
+ghost use Rattle.std.specs.Prelude.{◌≡◌, ◌<◌, ◌≤◌, [], ◌∷◌, map, IfOk, IfErr, IfSome, IfNone, OnSome, OnOk, OnErr, Ok, Err, None, Some, true};
 ghost use Rattle.wt_tree.specs.NumberFunction.{is_number, is_number_function};
-ghost use Rattle.wt_registry.specs.Registry.{IsHeld};
+ghost use Rattle.wt_model.specs.Holds.{IsHeld};
 
 use crate::debt::Debt;
-use crate::refusal::{BuildRefusal, Full};
 use crate::registry::TypeRegistry;
 use std::hash::{Hash, Hasher};
 use std::marker::Model;
 use wt_env::types::{VMSharedTypeIndex, WasmSubType};
+use wt_model::refusal::{BuildRefusal, Full};
 
 /// A party of an engine, by its number.
 #[derive(Debug, Drop)]
@@ -52,7 +52,7 @@ pub struct RegisteredType {
 }
 
 impl Model for RegisteredType {
-    ghost use Rattle.wt_registry.specs.Registry.{Hold};
+    ghost use Rattle.wt_model.specs.Holds.{Hold};
 
     ghost Value = { Hold };
 
@@ -84,7 +84,7 @@ impl Eq for RegisteredType {
 impl Hash for RegisteredType {
     ghost use Rattle.std.proofs.Common.{rules};
     ghost use Rattle.std.specs.Cmp.Rules.{hashing};
-    ghost use Rattle.wt_registry.specs.Registry.{hold_feed};
+    ghost use Rattle.wt_model.specs.Holds.{hold_feed};
 
     ghost hash_input = { hold_feed };
 
@@ -97,17 +97,19 @@ impl Hash for RegisteredType {
 }
 
 impl RegisteredType {
-    ghost use Rattle.wt_registry.specs.Removal.{drop_hold as drop_of};
-    ghost use Rattle.wt_registry.specs.Registry.{root as root_of, hold, closed_tree, tree_of};
-    ghost use Rattle.wt_registry.specs.Keys.{sub_type_at};
-    ghost use Rattle.wt_registry.specs.Plan.{register};
-    ghost use Rattle.wt_registry.specs.Sound.{IsSound, Grows, Loses};
+    ghost use Rattle.wt_model.specs.Indices.{closed_tree};
+    ghost use Rattle.wt_model.specs.Shown.{sub_type_at};
+    ghost use Rattle.wt_model.specs.Holds.{root as root_of, hold};
+    ghost use Rattle.wt_model.specs.Registration.{host_type, trees_of, registration_refusal, IsRefusal, register};
+    ghost use Rattle.wt_model.specs.Removal.{drop_hold as drop_of};
+    ghost use Rattle.wt_model.specs.Sound.{IsSound};
+    ghost use Rattle.wt_model.specs.Changes.{HoldChanges, DropChanges, IsStillReached};
 
     /// Registers a type for a party, and gives the party one hold of it. A type whose closed tree is that
     /// of a registered one is that one, with its index. Otherwise it gets the smallest free index.
     ///
-    /// It is refused `Full` exactly where a limit would be passed: on groups, types, registration numbers or
-    /// holds, and the first of them in this order is told. A refusal leaves all as before, want of memory
+    /// It is refused with the first cause of the build checks: `Full` where a limit would be passed, on groups,
+    /// types, registration numbers or holds, in this order. A refusal leaves all as before, want of memory
     /// included.
     pub fn new(
         registry: &mut TypeRegistry,
@@ -119,14 +121,12 @@ impl RegisteredType {
         requires party { party.old < registry.old.engine.limits.parties }
 
         ensures ok { IfOk result (λ hold. register registry.old party.old ty ≡ Ok (hold, registry.new)) }
-        ensures full { (full : _) → result ≡ Err (BuildRefusal.Full full) → register registry.old party.old ty ≡ Err full }
-        ensures valid { (place : _) (rule : _) → result ≡ Err (BuildRefusal.InvalidModule place rule) → ⊥ }
-        ensures has_gc { result ≡ Err BuildRefusal.NoGc → ⊥ }
-        ensures named { IfOk result (λ hold. closed_tree registry.new.made hold.index
-            ≡ Some (record { tree = tree_of registry.old.made (ty ∷ []); place = 0 })) }
+        ensures accepted { OnOk result (registration_refusal registry.old party.old (host_type ty) ≡ None) }
+        ensures refused { IfErr result (λ why. IsRefusal (registration_refusal registry.old party.old (host_type ty)) why) }
+        ensures named { IfOk result (λ hold. closed_tree registry.new.made hold.index ∷ [] ≡ map Some (trees_of registry.old.made (host_type ty))) }
         ensures err { OnErr result (registry.new ≡ registry.old) }
         ensures party { party.new ≡ party.old }
-        ensures grows { IfOk result (λ hold. Grows registry.old registry.new party.old hold.number) }
+        ensures changes { IfOk result (λ hold. HoldChanges registry.old registry.new party.old (hold.number ∷ [])) }
         ensures owner { IfOk result (λ hold. hold.party ≡ party.old) }
         ensures held { IfOk result (λ hold. IsHeld registry.new hold) }
         ensures sound { IsSound registry.new }
@@ -154,7 +154,7 @@ impl RegisteredType {
         ensures ok { IfOk result (λ found. root_of registry.old party.old index ≡ Ok (found, registry.new)) }
         ensures owner { IfOk result (λ found. (hold : _) → found ≡ Some hold → hold.party ≡ party.old) }
         ensures held { IfOk result (λ found. (hold : _) → found ≡ Some hold → IsHeld registry.new hold) }
-        ensures grows { IfOk result (λ found. (hold : _) → found ≡ Some hold → Grows registry.old registry.new party.old hold.number) }
+        ensures changes { IfOk result (λ found. (hold : _) → found ≡ Some hold → HoldChanges registry.old registry.new party.old (hold.number ∷ [])) }
         ensures full { (full : _) → result ≡ Err full → root_of registry.old party.old index ≡ Err full }
         ensures err { OnErr result (registry.new ≡ registry.old) }
         ensures party { party.new ≡ party.old }
@@ -187,7 +187,7 @@ impl RegisteredType {
         requires held { IsHeld registry.old self.now }
         ensures copy { IfOk result (λ copy. copy ≡ self.now) }
         ensures held { IfOk result (λ copy. IsHeld registry.new copy) }
-        ensures grows { IfOk result (λ copy. Grows registry.old registry.new party.old copy.number) }
+        ensures changes { IfOk result (λ copy. HoldChanges registry.old registry.new party.old (copy.number ∷ [])) }
         ensures ok { IfOk result (λ copy. hold registry.old party.old self.now.number ≡ Ok registry.new) }
         ensures full { (full : _) → result ≡ Err full → hold registry.old party.old self.now.number ≡ Err full }
         ensures err { OnErr result (registry.new ≡ registry.old) }
@@ -242,13 +242,15 @@ impl RegisteredType {
         registry.borrow(self.index).unwrap()
     }
 
-    /// Ends the hold. Where nobody holds the type's group any more, the group waits for a sweep, and the
-    /// answer is the debt. It takes no memory, and is never refused.
+    /// Ends the hold. Where no hold and no group that waits leads to the type's group by edges any more, the group
+    /// waits for a sweep, and the answer is the debt. It takes no memory, and is never refused.
     pub fn decref(self, registry: &mut TypeRegistry, party: &mut PartyNumber) -> Option<Debt>
         requires owner { party.old ≡ self.party }
         requires held { IsHeld registry.old self }
         ensures dropped { drop_of registry.old party.old self.number ≡ (result, registry.new) }
-        ensures loses { Loses registry.old registry.new party.old self.number }
+        ensures owed { OnSome result (IsStillReached registry.old registry.new self.number → ⊥) }
+        ensures settled { IfNone result (IsStillReached registry.old registry.new self.number) }
+        ensures changes { DropChanges registry.old registry.new party.old self.number }
         ensures same_party { party.new ≡ party.old }
         ensures sound { IsSound registry.new }
     {
@@ -273,7 +275,6 @@ impl RegisteredType {
 #[cfg(test)]
 mod tests {
     use super::*;
-    use crate::debt::Swept;
     use std::alloc::Global;
     use std::process::Abort;
     use std::test::Fail;
@@ -281,6 +282,7 @@ mod tests {
     use wt_env::memory::OutOfMemory;
     use wt_env::seq::Seq;
     use wt_env::types::{WasmCompositeInnerType, WasmFuncType, WasmValType};
+    use wt_model::swept::Swept;
 
     /// The final function type from one number to another.
     fn function(
@@ -427,7 +429,7 @@ mod tests {
         ensures party { party.new ≡ party.old }
     {
         hold.decref(registry, party)
-            .expect(rt, "nobody holds the group now")
+            .expect(rt, "nothing reaches the group now")
     }
 
     /// One more hold of the type with index 0.

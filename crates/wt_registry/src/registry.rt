@@ -1,36 +1,37 @@
 //! The registry: the groups that stand in it, and what can be asked of it.
 
 use crate::collection::TypeCollection;
-use crate::debt::{Debt, Swept};
-use crate::enter::{carry_out, hold_one};
-use crate::entry::Given;
-use crate::groups::Groups;
-use crate::live::LiveGroup;
-use crate::plan::{Plan, plan_groups, plan_key};
-use crate::refusal::{BuildRefusal, Full};
+use crate::debt::Debt;
+use crate::enter::{check_and_commit, hold_one};
 use crate::registered_type::PartyNumber;
-use crate::search::{borrow_from, live_groups, number_at};
-use crate::sweeping::{end_hold, release_groups, sweep_group};
-use crate::validity::{are_functions, first_broken};
 use std::alloc::Global;
 use std::marker::Model;
 use wt_env::limits::Engine;
 use wt_env::memory::OutOfMemory;
 use wt_env::seq::Seq;
 use wt_env::types::{ModuleTypes, VMSharedTypeIndex, WasmRecGroup, WasmSubType};
+use wt_holds::inner::TypeRegistryInner;
+use wt_holds::removal::{end_hold, release_groups, sweep_group};
+use wt_keys::search::{borrow_from, live_groups, number_at};
+use wt_model::ever::EverRegistered;
+use wt_model::live::LiveGroup;
+use wt_model::refusal::{BuildRefusal, Full};
+use wt_model::swept::Swept;
+use wt_plan::plan::{Plan, plan_groups, plan_key};
+use wt_rules::rules::{are_functions, first_broken};
 
 /// The recursion groups that an engine has registered.
 #[derive(Drop)]
 pub struct TypeRegistry {
     alloc: Global,
     engine: Engine,
-    groups: Groups,
+    groups: TypeRegistryInner,
 }
 
 impl Model for TypeRegistry {
-    ghost use Rattle.wt_registry.specs.Registry.{Registry};
-    ghost use Rattle.wt_registry.specs.Entries.{registry_at};
-    ghost use Rattle.wt_registry.specs.Kept.{AreKept};
+    ghost use Rattle.wt_model.specs.Registered.{Registry};
+    ghost use Rattle.wt_holds.specs.Kept.{registry_at};
+    ghost use Rattle.wt_holds.specs.Kept.{AreKept};
 
     ghost Value = { Registry };
 
@@ -40,18 +41,19 @@ impl Model for TypeRegistry {
 }
 
 impl TypeRegistry {
-    ghost use Rattle.std.specs.Prelude.{◌≡◌, ℕ, ◌<◌, ◌≤◌, ◌⊎◌, ◌∷◌, [], ◌↔◌, map, false, None, IsTrue, IsSome, IfOk, OnOk, OnErr, Ok, Err, Some, true, option_map};
+    ghost use Rattle.std.specs.Prelude.{◌≡◌, ℕ, ◌<◌, ◌≤◌, ◌∷◌, [], ◌↔◌, map, false, None, IsTrue, IsSome, IfOk, IfErr, OnOk, OnErr, Ok, Err, Some, true, option_map};
     ghost use Rattle.std.specs.Option.{option_copied};
     ghost use Rattle.wt_tree.specs.NumberFunction.{is_number_function};
-    ghost use Rattle.wt_registry.specs.Registry.{empty_registry, locate, number_of, hold, held_at, closed_tree, tree_of};
-    ghost use Rattle.wt_registry.specs.Keys.{sub_type_at};
-    ghost use Rattle.wt_registry.specs.Plan.{register as register_of, register_groups};
-    ghost use Rattle.wt_registry.specs.Removal.{drop_hold, sweep_debt, release_holds};
-    ghost use Rattle.wt_registry.specs.Validity.{AreCountable, AreModuleTypes, first_broken as broken_of, are_functions as all_functions};
-    ghost use Rattle.wt_tree.specs.ModuleTree.{module_trees};
-    ghost use Rattle.wt_registry.specs.Sound.{IsSound, Grows, Sweeps};
-    ghost use Rattle.wt_registry.specs.Holdings.{IsHolding, Gains, Releases};
-    ghost use Rattle.wt_registry.specs.Live.{live_of};
+    ghost use Rattle.wt_rules.specs.Rules.{AreCountable, AreModuleTypes};
+    ghost use Rattle.wt_model.specs.Registered.{empty_registry};
+    ghost use Rattle.wt_model.specs.Indices.{locate, number_of, closed_tree};
+    ghost use Rattle.wt_model.specs.Shown.{sub_type_at};
+    ghost use Rattle.wt_model.specs.Live.{live_of};
+    ghost use Rattle.wt_model.specs.Holds.{hold, held_at, IsHolding};
+    ghost use Rattle.wt_model.specs.Registration.{Registration, host_type, module_groups, trees_of, registration_refusal, IsRefusal, register as register_of, register_groups};
+    ghost use Rattle.wt_model.specs.Removal.{drop_hold, sweep_debt, release_holds};
+    ghost use Rattle.wt_model.specs.Sound.{IsSound};
+    ghost use Rattle.wt_model.specs.Changes.{HoldChanges, SweepChanges, ReleaseChanges};
 
     /// A registry of the engine in which nothing is registered. It takes no memory.
     pub fn new(alloc: Global, engine: &Engine) -> TypeRegistry
@@ -61,11 +63,11 @@ impl TypeRegistry {
         TypeRegistry {
             alloc,
             engine: *engine,
-            groups: Groups {
+            groups: TypeRegistryInner {
                 entries: Vec::new(alloc),
                 counts: Vec::new(alloc),
                 marks: Vec::new(alloc),
-                given: Given {
+                given: EverRegistered {
                     numbers: 0,
                     types: 0,
                     references: 0,
@@ -81,10 +83,12 @@ impl TypeRegistry {
         &self.engine
     }
 
-    /// Whether the index names a registered type.
+    /// Whether the index names a registered type. The reserved index names none.
     pub fn contains(&self, index: VMSharedTypeIndex) -> bool
-        ensures { IsTrue result ↔ IsSome (locate self.now.made index) }
+        ensures registered { IsTrue result ↔ IsSome (locate self.now.made index) }
+        ensures reserved { index.0 ≡ 4294967295 → result ≡ false }
     {
+        let _bounded = self.engine.limits();
         self.borrow(index).is_some()
     }
 
@@ -103,8 +107,8 @@ impl TypeRegistry {
         live_groups(self.alloc, self.groups.entries.as_slice())
     }
 
-    /// What holds of each registry, told where nothing of it is read.
-    pub(crate) fn assure(&self)
+    /// What is true of every registry.
+    pub fn assure(&self)
         ensures { IsSound self.now }
     {
         let _standing = &self.groups;
@@ -115,7 +119,7 @@ impl TypeRegistry {
     /// there. It takes no memory, and is never refused.
     pub fn sweep(&mut self, debt: Debt) -> Swept
         ensures swept { sweep_debt self.old debt ≡ (result, self.new) }
-        ensures sweeps { Sweeps self.old self.new }
+        ensures changes { SweepChanges self.old self.new }
         ensures sound { IsSound self.new }
     {
         let number = debt.number();
@@ -135,13 +139,10 @@ impl TypeRegistry {
         requires party { party < self.old.engine.limits.parties }
         ensures ok { IfOk result (λ entered. register_of self.old party ty
             ≡ Ok (record { engine = self.old.engine.number; index = entered.1; number = entered.0; party = party }, self.new)) }
-        ensures full { (full : _) → result ≡ Err (BuildRefusal.Full full) → register_of self.old party ty ≡ Err full }
-        ensures valid { (place : _) (rule : _) → result ≡ Err (BuildRefusal.InvalidModule place rule) → ⊥ }
-        ensures has_gc { result ≡ Err BuildRefusal.NoGc → ⊥ }
-        ensures named { IfOk result (λ entered. closed_tree self.new.made entered.1
-            ≡ Some (record { tree = tree_of self.old.made (ty ∷ []); place = 0 })) }
-        ensures grows { IfOk result (λ entered. Grows self.old self.new party entered.0) }
+        ensures refused { IfErr result (λ why. IsRefusal (registration_refusal self.old party (host_type ty)) why) }
+        ensures named { IfOk result (λ entered. closed_tree self.new.made entered.1 ∷ [] ≡ map Some (trees_of self.old.made (host_type ty))) }
         ensures located { IfOk result (λ entered. number_of self.new.made entered.1 ≡ Some entered.0) }
+        ensures changes { IfOk result (λ entered. HoldChanges self.old self.new party (entered.0 ∷ [])) }
         ensures err { OnErr result (self.new ≡ self.old) }
         ensures sound { IsSound self.new }
     {
@@ -150,7 +151,13 @@ impl TypeRegistry {
         };
         let mut plan = Plan::new(self.alloc, self.groups.given);
         plan_key(self.alloc, self.groups.entries.as_slice(), &mut plan, key)?;
-        let (numbers, map) = carry_out(self.alloc, &self.engine, &mut self.groups, party, plan)?;
+        let (numbers, map) = check_and_commit(
+            self.alloc,
+            &self.engine,
+            &mut self.groups,
+            party,
+            plan,
+        )?;
         Ok((numbers[0], map[0]))
     }
 
@@ -158,10 +165,10 @@ impl TypeRegistry {
     /// each time that it occurs. A group whose closed trees are those of a registered one is that one, with its
     /// indices. Otherwise it gets the next registration number and the smallest free indices.
     ///
-    /// It is refused `InvalidModule` exactly where a rule is broken, `NoGc` exactly where none is, the engine has
-    /// no garbage collection and some type is no function, and `Full` exactly where else a limit would be
-    /// passed: on groups, types, references, registration numbers or holds, and the first of them in this order
-    /// is told. A refusal leaves all as before, want of memory included.
+    /// It is refused with the first cause of the build checks: `InvalidModule` where a rule is broken, `NoGc`
+    /// where the engine has no garbage collection and some type is no function, and `Full` where a limit would be
+    /// passed: on groups, types, references, registration numbers or holds, in this order. A refusal leaves all
+    /// as before, want of memory included.
     pub fn register_module(
         &mut self,
         party: &mut PartyNumber,
@@ -171,18 +178,12 @@ impl TypeRegistry {
         requires named { AreModuleTypes types.now.groups }
         requires party { party.old < self.old.engine.limits.parties }
         ensures ok { IfOk result (λ held. register_groups self.old party.old types.now.groups ≡ Ok (held, self.new)) }
-        ensures valid { IfOk result (λ held. broken_of types.now.groups ≡ None) }
-        ensures invalid { (place : _) (rule : _) → result ≡ Err (BuildRefusal.InvalidModule place rule) → broken_of types.now.groups ≡ Some (place, rule) }
-        ensures allowed { IfOk result (λ held. (self.old.engine.gc ≡ true) ⊎ (all_functions types.now.groups ≡ true)) }
-        ensures no_gc { result ≡ Err BuildRefusal.NoGc
-            → (broken_of types.now.groups ≡ None) × (self.old.engine.gc ≡ false) × (all_functions types.now.groups ≡ false) }
-        ensures full { (full : _) → result ≡ Err (BuildRefusal.Full full)
-            → (broken_of types.now.groups ≡ None) × ((self.old.engine.gc ≡ true) ⊎ (all_functions types.now.groups ≡ true))
-            × (register_groups self.old party.old types.now.groups ≡ Err full) }
-        ensures named { IfOk result (λ held. map (closed_tree self.new.made) held.map ≡ map Some (module_trees [] types.now.groups)) }
+        ensures accepted { OnOk result (registration_refusal self.old party.old (module_groups types.now.groups) ≡ None) }
+        ensures refused { IfErr result (λ why. IsRefusal (registration_refusal self.old party.old (module_groups types.now.groups)) why) }
+        ensures named { IfOk result (λ held. map (closed_tree self.new.made) held.map ≡ map Some (trees_of self.old.made (module_groups types.now.groups))) }
         ensures owner { IfOk result (λ held. held.party ≡ party.old) }
         ensures holding { IfOk result (λ held. IsHolding self.new held) }
-        ensures gains { IfOk result (λ held. Gains self.old self.new party.old held.numbers) }
+        ensures changes { IfOk result (λ held. HoldChanges self.old self.new party.old held.numbers) }
         ensures err { OnErr result (self.new ≡ self.old) }
         ensures party { party.new ≡ party.old }
         ensures sound { IsSound self.new }
@@ -197,7 +198,7 @@ impl TypeRegistry {
         let mut plan = Plan::new(self.alloc, self.groups.given);
         let entries = self.groups.entries.as_slice();
         plan_groups(self.alloc, entries, &mut plan, types.groups.as_slice())?;
-        let (numbers, map) = carry_out(
+        let (numbers, map) = check_and_commit(
             self.alloc,
             &self.engine,
             &mut self.groups,
@@ -213,7 +214,7 @@ impl TypeRegistry {
         requires owner { party.old ≡ collection.party }
         requires held { IsHolding self.old collection }
         ensures released { release_holds self.old party.old collection.numbers ≡ self.new }
-        ensures releases { Releases self.old self.new party.old collection.numbers }
+        ensures changes { ReleaseChanges self.old self.new party.old collection.numbers }
         ensures same_party { party.new ≡ party.old }
         ensures sound { IsSound self.new }
     {
@@ -244,15 +245,18 @@ impl TypeRegistry {
         hold_one(&self.engine, &mut self.groups.counts, party, number)
     }
 
-    /// Ends a hold of a party on a group. Where nobody holds the group any more, it waits, and the party
-    /// owes a sweep of it. It takes no memory.
+    /// Ends a hold of a party on a group. Where no hold and no waiting group reaches the group any more, it
+    /// waits, and the party owes a sweep of it. It takes no memory.
     pub(crate) fn end_hold(&mut self, party: u32, number: u64) -> Option<Debt>
         requires party { party < self.old.engine.limits.parties }
         requires held { 1 ≤ held_at self.old.standings party number }
         ensures dropped { drop_hold self.old party number ≡ (result, self.new) }
         ensures sound { IsSound self.new }
     {
-        end_hold(&self.engine, &mut self.groups, party, number)
+        match end_hold(&self.engine, &mut self.groups, party, number) {
+            Some(number) => Some(Debt::new(number)),
+            None => None,
+        }
     }
 }
 

@@ -1,23 +1,26 @@
 //! Which limit a plan would pass, if any: what it wants of each, in the order in which they are tested.
 
 ghost use Rattle.std.specs.Prelude.{◌≡◌, ℕ, ◌+◌, ◌<◌, ◌++◌, length, IfOk};
-ghost use Rattle.wt_registry.specs.declared.counts.Count.{Count as CountOf};
 ghost use Rattle.std.specs.Option.{option_copied};
-ghost use Rattle.wt_registry.specs.Registry.{Registry, Among, used, first_full, held_at};
-ghost use Rattle.wt_registry.specs.Counts.{standings_of};
-ghost use Rattle.wt_registry.specs.Entries.{made_by};
-ghost use Rattle.wt_registry.specs.Plan.{references_of as references_in, times as times_in, holds_wanted, wanted_of};
-ghost use Rattle.wt_registry.specs.Planned.{plan_of};
+ghost use Rattle.wt_env.specs.Among.{Among};
+ghost use Rattle.wt_model.specs.Indices.{used};
+ghost use Rattle.wt_model.specs.Holds.{times as times_in};
+ghost use Rattle.wt_model.specs.Limits.{first_full, references_of as references_in, wanted_of, holds_wanted, passed_limit as limit_passed};
+ghost use Rattle.wt_keys.specs.Entries.{made_by};
+ghost use Rattle.wt_plan.specs.Planned.{plan_of};
+ghost use Rattle.wt_holds.specs.declared.hold_counts.HoldCounts.{HoldCounts as CountsOf};
+ghost use Rattle.wt_holds.specs.Counts.{standings_of};
+ghost use Rattle.wt_holds.specs.Kept.{registry_of};
 
-use crate::counts::{Count, held_by};
-use crate::entry::Entry;
-use crate::plan::Plan;
-use crate::refusal::Full;
 use wt_env::limits::{Engine, EngineLimits, Limit};
 use wt_env::memory::OutOfMemory;
+use wt_holds::hold_counts::{HoldCounts, held_by};
+use wt_keys::entry::RecGroupEntry;
+use wt_model::refusal::Full;
+use wt_plan::plan::Plan;
 
 /// How many types the entries have.
-fn types_of(entries: &[Entry]) -> Result<u64, OutOfMemory>
+fn types_of(entries: &[RecGroupEntry]) -> Result<u64, OutOfMemory>
     ensures { IfOk result (λ count. count ≡ length (used (made_by entries.now))) }
 {
     let mut count: u64 = 0;
@@ -30,7 +33,7 @@ fn types_of(entries: &[Entry]) -> Result<u64, OutOfMemory>
 }
 
 /// How many references leave the entries' groups.
-fn references_of(entries: &[Entry]) -> Result<u64, OutOfMemory>
+fn references_of(entries: &[RecGroupEntry]) -> Result<u64, OutOfMemory>
     ensures { IfOk result (λ count. count ≡ references_in (made_by entries.now)) }
 {
     let mut count: u64 = 0;
@@ -55,7 +58,7 @@ fn first_above(wanted: &[Full]) -> Option<Full>
 }
 
 /// The sum of two counts.
-fn both(first: u64, second: u64) -> Result<u64, OutOfMemory>
+fn checked_sum(first: u64, second: u64) -> Result<u64, OutOfMemory>
     ensures { IfOk result (λ sum. sum ≡ first + second) }
 {
     first.checked_add(second).ok_or(OutOfMemory)
@@ -63,30 +66,29 @@ fn both(first: u64, second: u64) -> Result<u64, OutOfMemory>
 
 /// The first limit that what stands would pass with what was planned, but for those on holds, where so many
 /// registration numbers are given then.
-pub(crate) fn passed_limit(
+fn passed_count(
     limits: EngineLimits,
-    entries: &[Entry],
-    added: &[Entry],
+    entries: &[RecGroupEntry],
+    added: &[RecGroupEntry],
     numbers: u64,
 ) -> Result<Option<Full>, OutOfMemory>
-    ensures { IfOk result (λ full. (registry : Registry) → registry.engine.limits ≡ limits → registry.made ≡ made_by (entries.now ++ added.now)
-        → registry.given.numbers ≡ numbers → full ≡ first_full (wanted_of registry)) }
+    ensures { IfOk result (λ full. full ≡ first_full (wanted_of limits (made_by (entries.now ++ added.now)) numbers)) }
 {
     let wanted = [
         Full {
             limit: Limit::Groups,
             bound: limits.groups,
-            wanted: both(entries.len() as u64, added.len() as u64)?,
+            wanted: checked_sum(entries.len() as u64, added.len() as u64)?,
         },
         Full {
             limit: Limit::Types,
             bound: limits.types,
-            wanted: both(types_of(entries)?, types_of(added)?)?,
+            wanted: checked_sum(types_of(entries)?, types_of(added)?)?,
         },
         Full {
             limit: Limit::References,
             bound: limits.references,
-            wanted: both(references_of(entries)?, references_of(added)?)?,
+            wanted: checked_sum(references_of(entries)?, references_of(added)?)?,
         },
         Full {
             limit: Limit::Ever,
@@ -111,19 +113,18 @@ fn times(numbers: &[u64], number: u64) -> u64
 }
 
 /// The first limit on holds that a party would pass with one more hold for each time that a group occurs.
-pub(crate) fn passed_hold(
-    bound: u64,
-    counts: &[Count],
+fn passed_hold(
+    limits: EngineLimits,
+    counts: &[HoldCounts],
     party: u32,
     numbers: &[u64],
 ) -> Result<Option<Full>, OutOfMemory>
-    requires parties { (count : CountOf) → Among count counts.now → party < length count.holds.items }
-    ensures { IfOk result (λ full. (registry : Registry) → registry.engine.limits.holds ≡ bound
-        → ((number : ℕ) → held_at registry.standings party number ≡ held_at (standings_of counts.now) party number)
-        → full ≡ first_full (holds_wanted registry party numbers.now numbers.now)) }
+    requires parties { (count : CountsOf) → Among count counts.now → party < length count.holds.items }
+    ensures { IfOk result (λ full. full ≡ first_full (holds_wanted limits (standings_of counts.now) party numbers.now numbers.now)) }
 {
+    let bound = limits.holds;
     for number in numbers {
-        let wanted = both(held_by(counts, party, *number), times(numbers, *number))?;
+        let wanted = checked_sum(held_by(counts, party, *number), times(numbers, *number))?;
         if bound < wanted {
             return Ok(Some(Full {
                 limit: Limit::Holds,
@@ -136,21 +137,21 @@ pub(crate) fn passed_hold(
 }
 
 /// The first limit that what stands would pass with a plan, carried out for a party.
-pub(crate) fn passed(
+pub(crate) fn passed_limit(
     engine: &Engine,
-    entries: &[Entry],
-    counts: &[Count],
+    entries: &[RecGroupEntry],
+    counts: &[HoldCounts],
     party: u32,
     plan: &Plan,
 ) -> Result<Option<Full>, OutOfMemory>
-    requires parties { (count : CountOf) → Among count counts.now → party < length count.holds.items }
-    ensures { IfOk result (λ full. let plan = plan_of engine.now entries.now (standings_of counts.now) plan.now in
-        full ≡ first_full (wanted_of plan.registry ++ holds_wanted plan.registry party plan.numbers plan.numbers)) }
+    requires parties { (count : CountsOf) → Among count counts.now → party < length count.holds.items }
+    ensures { IfOk result (λ full. full
+        ≡ limit_passed (registry_of engine.now entries.now plan.now.given (standings_of counts.now)) party (plan_of entries.now plan.now)) }
 {
     let limits = engine.limits();
     let added = plan.added.as_slice();
-    match passed_limit(limits, entries, added, plan.given.numbers)? {
+    match passed_count(limits, entries, added, plan.given.numbers)? {
         Some(full) => Ok(Some(full)),
-        None => passed_hold(limits.holds, counts, party, plan.numbers.as_slice()),
+        None => passed_hold(limits, counts, party, plan.numbers.as_slice()),
     }
 }

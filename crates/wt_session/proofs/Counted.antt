@@ -1,7 +1,7 @@
 -- How many types the groups before one have.
-use Rattle.std.proofs.Common.{◌≡◌, ℕ, zero, suc, ◌+◌, ◌<◌, ◌≤◌, List, [], ◌∷◌, ◌++◌, length, take, get_or, refl, ap, sym, ◌∙◌, arith}
+use Rattle.std.proofs.Common.{◌≡◌, ℕ, zero, suc, ◌+◌, ◌<◌, ◌≤◌, List, [], ◌∷◌, length, take, get_or, ap, arith}
 use Rattle.wt_env.specs.declared.types.WasmRecGroup.{WasmRecGroup}
-use Rattle.wt_registry.specs.Validity.{total_members}
+use Rattle.wt_registry.specs.Rules.{total_members}
 
 pub total-turn : (groups : List WasmRecGroup) (n : ℕ) (group : WasmRecGroup) → n < length groups → group ≡ get_or groups n group
     → total_members (take (suc n) groups) ≡ total_members (take n groups) + length group.types

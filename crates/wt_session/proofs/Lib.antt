@@ -1,3 +1,5 @@
+pub mod Answering
+pub mod BuildChecks
 pub mod Counted
 pub mod HandlesKept
 pub mod HostTypes

@@ -2,14 +2,17 @@
 use Rattle.std.proofs.Common.{◌≡◌, ◌≢◌, ℕ, zero, suc, ◌+◌, ◌-◌, ◌<◌, ◌≤◌, ◌==◌, Bool, true, false, List, [], ◌∷◌, ◌++◌, length, replicate, get_or, slice_get, slice_set, Some, refl, sym, ap, subst, ◌∙◌, arith, length-set}
 use Rattle.std.proofs.lemmas.List.{append_assoc, length-append, length-map, map-append, map-set}
 use Rattle.wt_env.specs.Limits.{EngineParts}
-use Rattle.wt_registry.specs.Registry.{Registry}
+use Rattle.wt_registry.specs.Registered.{Registry}
+use Rattle.wt_session.specs.declared.counts.ObjectCounts.{ObjectCounts}
 use Rattle.wt_session.specs.declared.handle.Handle.{Handle}
-use Rattle.wt_session.specs.declared.rows.Row.{Row}
+use Rattle.wt_session.specs.declared.party_handles.PartyHandles.{PartyHandles}
+use Rattle.wt_session.specs.declared.reply.Refusal.{Refusal}
 use Rattle.wt_session.specs.declared.reply.Reply.{Reply}
-use Rattle.wt_session.specs.World.{held_in, no_counts, row_of}
-use Rattle.wt_session.specs.Run.{with_outcome}
+use Rattle.wt_session.specs.declared.reply.Reply.TheVariants as reply
+use Rattle.wt_session.specs.World.{row_of}
+use Rattle.wt_session.specs.Run.{refused, counts_after, with_outcome}
 use Rattle.wt_session.specs.Session.{rows_of, padded, world_of, AreHandles, IsKept, Keeps}
-use Rattle.wt_session.proofs.Times.{among-times, held-handle}
+use Rattle.wt_session.proofs.HandlesKept.{held-own, still-handle}
 
 -- ---- one row more, without handles
 
@@ -20,14 +23,14 @@ padded_more parties rows below =
     append_assoc rows ([] ∷ []) (replicate (parties - length (rows ++ [] ∷ [])) [])
     ∙ ap (λ (n : ℕ). rows ++ replicate n []) less
 
-pub length-rows : (rows : List Row) → length (rows_of rows) ≡ length rows
-length-rows rows = length-map rows (λ (row : Row). row.handles.items)
+pub length-rows : (rows : List PartyHandles) → length (rows_of rows) ≡ length rows
+length-rows rows = length-map rows (λ (row : PartyHandles). row.handles.items)
 
-pub padded-pushed : (parties : ℕ) (rows rows' : List Row) (row : Row) → rows' ≡ rows ++ row ∷ [] → row.handles.items ≡ [] → length rows < parties
+pub padded-pushed : (parties : ℕ) (rows rows' : List PartyHandles) (row : PartyHandles) → rows' ≡ rows ++ row ∷ [] → row.handles.items ≡ [] → length rows < parties
     → padded parties (rows_of rows') ≡ padded parties (rows_of rows)
 padded-pushed parties rows rows' row pushed none below =
-    ap (λ (all : List Row). padded parties (rows_of all)) pushed
-    ∙ ap (padded parties) (map-append (λ (r : Row). r.handles.items) rows (row ∷ []))
+    ap (λ (all : List PartyHandles). padded parties (rows_of all)) pushed
+    ∙ ap (padded parties) (map-append (λ (r : PartyHandles). r.handles.items) rows (row ∷ []))
     ∙ ap (λ (own : List Handle). padded parties (rows_of rows ++ own ∷ [])) none
     ∙ padded_more parties (rows_of rows) (omega (arith, length-rows rows, below))
 
@@ -63,13 +66,13 @@ kept-padded registry rows rows' same within kept =
 
 -- ---- the row at a place
 
-pub read_row : (rows : List Row) (party : ℕ) (row : Row) → party < length rows → row ≡ get_or rows party row → slice_get (rows_of rows) party ≡ Some row.handles.items
+pub read_row : (rows : List PartyHandles) (party : ℕ) (row : PartyHandles) → party < length rows → row ≡ get_or rows party row → slice_get (rows_of rows) party ≡ Some row.handles.items
 read_row [] party row within is = absurd (omega arith)
-read_row (r ∷ rows) zero row within is = ap (λ (own : Row). Some own.handles.items) (sym is)
+read_row (r ∷ rows) zero row within is = ap (λ (own : PartyHandles). Some own.handles.items) (sym is)
 read_row (r ∷ rows) (suc party) row within is = read_row rows party row (omega arith) is
 
-pub set_row : (rows : List Row) (party : ℕ) (row : Row) → rows_of (slice_set rows party row) ≡ slice_set (rows_of rows) party row.handles.items
-set_row rows party row = map-set (λ (r : Row). r.handles.items) rows party row
+pub set_row : (rows : List PartyHandles) (party : ℕ) (row : PartyHandles) → rows_of (slice_set rows party row) ≡ slice_set (rows_of rows) party row.handles.items
+set_row rows party row = map-set (λ (r : PartyHandles). r.handles.items) rows party row
 
 same_row : (row row' : List Handle) → Some row ≡ Some row' → row ≡ row'
 same_row row row' h = cc
@@ -101,12 +104,8 @@ other-set (r ∷ rows) (suc party) (suc p) row' differs = other-set rows party p
 others-kept : (old new : Registry) (party p : ℕ) (own row : List Handle) → Keeps old new party own → p ≢ party → AreHandles old p row → AreHandles new p row
 others-kept old new party p own row keeps differs are = record {
   counted = λ n. keeps.spares.holds p n differs ∙ are.counted n;
-  engine = λ hold at. ap (λ (e : EngineParts). e.number) keeps.spares.engine ∙ are.engine hold at;
-  owner = are.owner;
-  located = λ hold at.
-      let held = subst (λ (n : ℕ). 1 ≤ n) (sym (are.counted hold.number)) (among-times hold.number (held_in row) (held-handle row hold at)) in
-      keeps.spares.located hold.index p hold.number differs held (are.located hold at);
-  modules = λ types at. let was = are.modules types at in (ap (λ (e : EngineParts). e.number) keeps.spares.engine ∙ was.0, was.1);
+  each = λ h at.
+      still-handle old new p h keeps.spares.engine (λ i n holds found. keeps.spares.located i p n differs (held-own old p row h n are at holds) found) (are.each h at);
 }
 
 pub kept-set : (old new : Registry) (rows : List (List Handle)) (party : ℕ) (row row' : List Handle) → slice_get rows party ≡ Some row → IsKept old rows → Keeps old new party row' → IsKept new (slice_set rows party row')
@@ -141,24 +140,24 @@ padded_set parties rows party row row' is =
 pub world-row : (registry : Registry) (rows : List (List Handle)) (party : ℕ) (row : List Handle) → slice_get rows party ≡ Some row → row_of party (padded registry.engine.limits.parties rows) ≡ row
 world-row registry rows party row is = row_of-row rows (replicate (registry.engine.limits.parties - length rows) []) party row is
 
-pub outcome-world : (old new : Registry) (rows : List (List Handle)) (party : ℕ) (row row' : List Handle) (reply : Reply) → slice_get rows party ≡ Some row → new.engine ≡ old.engine
-    → with_outcome (world_of old rows) party (record { reply = reply; registry = new; row = row' }) ≡ (reply, world_of new (slice_set rows party row'))
-outcome-world old new rows party row row' reply is engine = λ i. (
-  reply,
+pub outcome-world : (old new : Registry) (counts : ObjectCounts) (rows : List (List Handle)) (party : ℕ) (row row' : List Handle) (told : Reply) → slice_get rows party ≡ Some row → new.engine ≡ old.engine
+    → with_outcome (world_of old counts rows) party (record { reply = told; registry = new; row = row' }) ≡ (told, world_of new (counts_after told counts) (slice_set rows party row'))
+outcome-world old new counts rows party row row' told is engine = λ i. (
+  told,
   record {
     registry = new;
     handles = (padded_set old.engine.limits.parties rows party row row' is ∙ ap (λ (e : EngineParts). padded e.limits.parties (slice_set rows party row')) (sym engine)) i;
-    counts = no_counts;
+    counts = counts_after told counts;
   },
 )
 
 -- a refused command of a party without handles changes nothing
-pub same-world : (registry : Registry) (rows : List (List Handle)) (party : ℕ) (reply : Reply) → party < registry.engine.limits.parties → length rows ≤ registry.engine.limits.parties
-    → with_outcome (world_of registry rows) party (record { reply = reply; registry = registry; row = row_of party (padded registry.engine.limits.parties rows) }) ≡ (reply, world_of registry rows)
-same-world registry rows party reply below within =
+pub same-world : (registry : Registry) (counts : ObjectCounts) (rows : List (List Handle)) (party : ℕ) (why : Refusal) → party < registry.engine.limits.parties → length rows ≤ registry.engine.limits.parties
+    → with_outcome (world_of registry counts rows) party (refused registry (row_of party (padded registry.engine.limits.parties rows)) why) ≡ (reply.Refused why, world_of registry counts rows)
+same-world registry counts rows party why below within =
     let parties = registry.engine.limits.parties in
     let long : party < length (padded parties rows) = omega (arith, length-append rows (replicate (parties - length rows) []), length-none (parties - length rows), below, within) in
-    λ i. (reply, record { registry = registry; handles = set-own (padded parties rows) party long i; counts = no_counts })
+    λ i. (reply.Refused why, record { registry = registry; handles = set-own (padded parties rows) party long i; counts = counts })
   where
     no_handles : List Handle
     no_handles = []

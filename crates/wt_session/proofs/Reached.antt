@@ -3,8 +3,11 @@ use Rattle.std.proofs.Common.{◌≡◌, ℕ, zero, suc, ◌-◌, ◌≤◌, inl
 use Rattle.std.specs.List.{flat_map}
 use Rattle.std.proofs.lemmas.Grind.{flat_map-append}
 use Rattle.std.proofs.lemmas.List.{append-nil}
-use Rattle.wt_registry.specs.Registry.{Registry, Among, held_at, waiting}
+use Rattle.wt_registry.specs.Registered.{Registry}
+use Rattle.wt_env.specs.Among.{Among}
+use Rattle.wt_registry.specs.Holds.{held_at, waiting}
 use Rattle.wt_registry.specs.Sound.{IsRoot}
+use Rattle.wt_session.specs.declared.counts.ObjectCounts.{ObjectCounts}
 use Rattle.wt_session.specs.declared.handle.Handle.{Handle}
 use Rattle.wt_session.specs.World.{held_in, holds, row_of, HasExactlyReached}
 use Rattle.wt_session.specs.Session.{padded, world_of, IsKept}
@@ -44,17 +47,17 @@ holds-row (row ∷ rows) number at = elim (among_either (held_in row) (held_rows
 
 -- ---- the roots of the registry are those of the session
 
-root-reached : (registry : Registry) (rows : List (List Handle)) → IsKept registry rows → (root : ℕ) → IsRoot registry root → Among root (holds (world_of registry rows) ++ waiting registry.standings)
-root-reached registry rows kept root (inl held) =
+root-reached : (registry : Registry) (counts : ObjectCounts) (rows : List (List Handle)) → IsKept registry rows → (root : ℕ) → IsRoot registry root → Among root (holds (world_of registry counts rows) ++ waiting registry.standings)
+root-reached registry counts rows kept root (inl held) =
     let counted = (kept.handles held.0).counted root in
     let mine = times-among root (held_in (row_of held.0 rows)) (subst (λ (n : ℕ). 1 ≤ n) counted held.1) in
-    among_left (holds (world_of registry rows)) (waiting registry.standings) root
+    among_left (holds (world_of registry counts rows)) (waiting registry.standings) root
     (subst (Among root) (sym (held-padded registry.engine.limits.parties rows)) (row-holds rows held.0 root mine))
-root-reached registry rows kept root (inr waits) = among_right (holds (world_of registry rows)) (waiting registry.standings) root waits
+root-reached registry counts rows kept root (inr waits) = among_right (holds (world_of registry counts rows)) (waiting registry.standings) root waits
 
-reached-root : (registry : Registry) (rows : List (List Handle)) → IsKept registry rows → (root : ℕ) → Among root (holds (world_of registry rows) ++ waiting registry.standings) → IsRoot registry root
-reached-root registry rows kept root at =
-    elim (among_either (holds (world_of registry rows)) (waiting registry.standings) root at) [
+reached-root : (registry : Registry) (counts : ObjectCounts) (rows : List (List Handle)) → IsKept registry rows → (root : ℕ) → Among root (holds (world_of registry counts rows) ++ waiting registry.standings) → IsRoot registry root
+reached-root registry counts rows kept root at =
+    elim (among_either (holds (world_of registry counts rows)) (waiting registry.standings) root at) [
       | inl held ↦ inl (counted (holds-row rows root (subst (Among root) (held-padded registry.engine.limits.parties rows) held)))
       | inr waits ↦ inr waits
     ]
@@ -62,11 +65,11 @@ reached-root registry rows kept root at =
     counted : (party : ℕ) × Among root (held_in (row_of party rows)) → (party : ℕ) × (1 ≤ held_at registry.standings party root)
     counted found = (found.0, subst (λ (n : ℕ). 1 ≤ n) (sym ((kept.handles found.0).counted root)) (among-times root (held_in (row_of found.0 rows)) found.1))
 
-pub reached : (registry : Registry) (rows : List (List Handle)) → IsKept registry rows → HasExactlyReached (world_of registry rows)
-reached registry rows kept = record {
+pub reached : (registry : Registry) (counts : ObjectCounts) (rows : List (List Handle)) → IsKept registry rows → HasExactlyReached (world_of registry counts rows)
+reached registry counts rows kept = record {
   in_order = kept.sound.rising;
   every = λ group at.
       let from = kept.sound.reached.every group at in
-      (from.0, root-reached registry rows kept from.0 from.1, from.2);
-  only = λ number from. kept.sound.reached.only from.0 number (reached-root registry rows kept from.0 from.1) from.2;
+      (from.0, root-reached registry counts rows kept from.0 from.1, from.2);
+  only = λ number from. kept.sound.reached.only from.0 number (reached-root registry counts rows kept from.0 from.1) from.2;
 }

@@ -2,12 +2,11 @@
 use Rattle.std.proofs.Common.{◌≡◌, ℕ, zero, suc, ◌+◌, ◌<◌, ◌≤◌, ◌==◌, ◌⊎◌, inl, inr, Bool, true, false, cond, List, [], ◌∷◌, ◌++◌, length, get_or, slice_get, slice_set, Some, refl, sym, ap, ◌∙◌, subst, arith}
 use Rattle.std.proofs.lemmas.Grind.{flat_map-append}
 use Rattle.std.proofs.lemmas.List.{append-nil}
-use Rattle.wt_registry.specs.Registry.{Hold, Among}
-use Rattle.wt_registry.specs.Plan.{Collection, times}
+use Rattle.wt_env.specs.Among.{Among}
+use Rattle.wt_registry.specs.Holds.{times}
 use Rattle.wt_session.specs.declared.command.Command.{Command}
 use Rattle.wt_session.specs.declared.handle.Handle.{Handle}
-use Rattle.wt_session.specs.declared.handle.Handle.TheVariants as handle
-use Rattle.wt_session.specs.World.{held_by, held_in}
+use Rattle.wt_session.specs.World.{numbers_held, held_in}
 
 -- ---- lists
 
@@ -64,39 +63,51 @@ times-among n (x ∷ xs) some = by (x == n) refl some (times-among n xs)
 
 -- ---- one handle more, or another in its place
 
-pub times-pushed : (n : ℕ) (row : List Handle) (new : Handle) → times n (held_in (row ++ new ∷ [])) ≡ times n (held_in row) + times n (held_by new)
+pub times-pushed : (n : ℕ) (row : List Handle) (new : Handle) → times n (held_in (row ++ new ∷ [])) ≡ times n (held_in row) + times n (numbers_held new)
 times-pushed n row new =
-    ap (times n) (flat_map-append held_by row (new ∷ []))
-    ∙ times-append n (held_in row) (held_by new ++ [])
-    ∙ ap (λ (held : List ℕ). times n (held_in row) + times n held) (append-nil (held_by new))
+    ap (times n) (flat_map-append numbers_held row (new ∷ []))
+    ∙ times-append n (held_in row) (numbers_held new ++ [])
+    ∙ ap (λ (held : List ℕ). times n (held_in row) + times n held) (append-nil (numbers_held new))
 
 same_handle : (a b : Handle) → Some a ≡ Some b → a ≡ b
 same_handle a b h = cc
 
 -- a handle that holds nothing stands where another stood
-pub times-ended : (n : ℕ) (row : List Handle) (place : ℕ) (old new : Handle) → slice_get row place ≡ Some old → held_by new ≡ []
-    → times n (held_in row) ≡ times n (held_in (slice_set row place new)) + times n (held_by old)
+pub times-ended : (n : ℕ) (row : List Handle) (place : ℕ) (old new : Handle) → slice_get row place ≡ Some old → numbers_held new ≡ []
+    → times n (held_in row) ≡ times n (held_in (slice_set row place new)) + times n (numbers_held old)
 times-ended n [] place old new is none = absurd (cc)
 times-ended n (h ∷ row) zero old new is none =
     ap (λ (first : Handle). times n (held_in (first ∷ row))) (same_handle h old is)
-    ∙ times-append n (held_by old) (held_in row)
-    ∙ swapped (times n (held_by old)) (times n (held_in row))
-    ∙ ap (λ (held : List ℕ). times n (held ++ held_in row) + times n (held_by old)) (sym none)
+    ∙ times-append n (numbers_held old) (held_in row)
+    ∙ swapped (times n (numbers_held old)) (times n (held_in row))
+    ∙ ap (λ (held : List ℕ). times n (held ++ held_in row) + times n (numbers_held old)) (sym none)
   where
     swapped : (a b : ℕ) → a + b ≡ b + a
     swapped a b = omega arith
 times-ended n (h ∷ row) (suc place) old new is none =
     let later = times-ended n row place old new is none in
-    let before = times-append n (held_by h) (held_in row) in
-    let after = times-append n (held_by h) (held_in (slice_set row place new)) in
+    let before = times-append n (numbers_held h) (held_in row) in
+    let after = times-append n (numbers_held h) (held_in (slice_set row place new)) in
     omega (arith, later, before, after)
 
 -- ---- the handles themselves
 
-pub held-handle : (row : List Handle) (hold : Hold) → Among (handle.Type hold) row → Among hold.number (held_in row)
-held-handle [] hold at = absurd at
-held-handle (h ∷ row) hold (inl same) = among_left (held_by h) (held_in row) hold.number (subst (λ (first : Handle). Among hold.number (held_by first)) same (inl refl))
-held-handle (h ∷ row) hold (inr later) = among_right (held_by h) (held_in row) hold.number (held-handle row hold later)
+-- what a handle holds, the party's handles hold
+pub held-among : (row : List Handle) (own : Handle) (n : ℕ) → Among own row → Among n (numbers_held own) → Among n (held_in row)
+held-among [] own n at holds = absurd at
+held-among (h ∷ row) own n (inl same) holds = among_left (numbers_held h) (held_in row) n (subst (λ (first : Handle). Among n (numbers_held first)) same holds)
+held-among (h ∷ row) own n (inr later) holds = among_right (numbers_held h) (held_in row) n (held-among row own n later holds)
+
+pub handle-times : (n : ℕ) (row : List Handle) (own : Handle) → Among own row → times n (numbers_held own) ≤ times n (held_in row)
+handle-times n [] own at = absurd at
+handle-times n (h ∷ row) own (inl same) =
+    let here : times n (numbers_held h) ≡ times n (numbers_held own) = ap (λ (first : Handle). times n (numbers_held first)) (sym same) in
+    let both = times-append n (numbers_held h) (held_in row) in
+    omega (arith, here, both)
+handle-times n (h ∷ row) own (inr later) =
+    let rest = handle-times n row own later in
+    let both = times-append n (numbers_held h) (held_in row) in
+    omega (arith, rest, both)
 
 -- what stands in a list with another in one place is that, or stood there
 pub among_set : (row : List Handle) (place : ℕ) (new h : Handle) → Among h (slice_set row place new) → Among h row ⊎ (h ≡ new)
@@ -110,15 +121,3 @@ pub got-among : (row : List Handle) (place : ℕ) (h : Handle) → slice_get row
 got-among [] place h is = absurd (cc)
 got-among (first ∷ row) zero h is = inl (sym (same_handle first h is))
 got-among (first ∷ row) (suc place) h is = inr (got-among row place h is)
-
--- what a handle on a module holds, the party holds
-pub module-times : (n : ℕ) (row : List Handle) (types : Collection) → Among (handle.Module types) row → times n types.numbers ≤ times n (held_in row)
-module-times n [] types at = absurd at
-module-times n (h ∷ row) types (inl same) =
-    let here : times n (held_by h) ≡ times n types.numbers = ap (λ (first : Handle). times n (held_by first)) (sym same) in
-    let both = times-append n (held_by h) (held_in row) in
-    omega (arith, here, both)
-module-times n (h ∷ row) types (inr later) =
-    let rest = module-times n row types later in
-    let both = times-append n (held_by h) (held_in row) in
-    omega (arith, rest, both)

@@ -1,3 +1,4 @@
+pub mod Answered
 pub mod Run
 pub mod Session
 pub mod World

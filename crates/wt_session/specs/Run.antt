@@ -1,18 +1,18 @@
 -- What a session answers to commands, and what they change.
-use Rattle.std.specs.Prelude.{ℕ, ◌+◌, nat_lt, ◌||◌, if◌then◌else◌, List, [], ◌∷◌, ◌++◌, length, map, slice_set, true, Option, Some, None, Result, Ok, Err}
+use Rattle.std.specs.Prelude.{ℕ, ◌+◌, nat_lt, if◌then◌else◌, List, [], ◌∷◌, ◌++◌, length, map, slice_set, true, Option, Some, None, Result, Ok, Err}
 use Rattle.wt_env.specs.declared.types.WasmValType.{WasmValType}
 use Rattle.wt_env.specs.declared.types.WasmValType.TheVariants as val
 use Rattle.wt_env.specs.declared.types.WasmCompositeInnerType.TheVariants as shape
 use Rattle.wt_env.specs.declared.types.WasmSubType.{WasmSubType}
-use Rattle.wt_env.specs.declared.types.WasmRecGroup.{WasmRecGroup}
 use Rattle.wt_env.specs.declared.limits.Limit.TheVariants.{Parties}
-use Rattle.wt_registry.specs.declared.debt.Swept.{Swept}
-use Rattle.wt_registry.specs.declared.refusal.Full.{Full}
-use Rattle.wt_registry.specs.Registry.{Registry, Hold, root as rooted, hold as held}
-use Rattle.wt_registry.specs.declared.refusal.Place.{Place}
-use Rattle.wt_registry.specs.declared.refusal.Rule.{Rule}
-use Rattle.wt_registry.specs.Plan.{Collection, register, register_groups}
-use Rattle.wt_registry.specs.Validity.{first_broken, are_functions}
+use Rattle.wt_model.specs.declared.swept.Swept.{Swept}
+use Rattle.wt_model.specs.declared.refusal.Full.{Full}
+use Rattle.wt_model.specs.declared.refusal.BuildRefusal.{BuildRefusal}
+use Rattle.wt_model.specs.declared.refusal.BuildRefusal.TheVariants as why
+use Rattle.wt_registry.specs.Registered.{Registry}
+use Rattle.wt_registry.specs.Holds.{Hold, root as rooted, hold as held}
+use Rattle.wt_registry.specs.Holds.{Collection}
+use Rattle.wt_registry.specs.Registration.{register, register_groups}
 use Rattle.wt_registry.specs.Removal.{drop_hold as dropped, sweep_debt as swept, release_holds}
 use Rattle.wt_registry.specs.Live.{live_of}
 use Rattle.wt_session.specs.declared.command.HostVal.{HostVal}
@@ -21,9 +21,10 @@ use Rattle.wt_session.specs.declared.command.HostSub.{HostSub}
 use Rattle.wt_session.specs.declared.command.HostSub.TheVariants as host_sub
 use Rattle.wt_session.specs.declared.command.Command.{Command}
 use Rattle.wt_session.specs.declared.command.Command.TheVariants as command
+use Rattle.wt_session.specs.declared.counts.ObjectCounts.{ObjectCounts}
 use Rattle.wt_session.specs.declared.handle.Handle.{Handle}
 use Rattle.wt_session.specs.declared.handle.Handle.TheVariants as handle
-use Rattle.wt_session.specs.declared.reply.HandleKind.TheVariants as kind
+use Rattle.wt_model.specs.declared.handle_kind.HandleKind.TheVariants as kind
 use Rattle.wt_session.specs.declared.reply.Refusal.{Refusal}
 use Rattle.wt_session.specs.declared.reply.Refusal.TheVariants as refusal
 use Rattle.wt_session.specs.declared.reply.Reply.{Reply}
@@ -62,10 +63,17 @@ refused registry row why = record { reply = reply.Refused why; registry = regist
 abbrev pub with_type : List Handle → Hold → Registry → Outcome
 with_type row hold after = record { reply = reply.TypeMade (length row) hold.index.0; registry = after; row = row ++ handle.Type hold ∷ [] }
 
+-- How a reply tells why a registration is refused. Want of memory is no cause of the build checks.
+abbrev pub refusal_of : BuildRefusal → Refusal
+refusal_of (why.InvalidModule place rule) = refusal.InvalidModule place rule
+refusal_of why.NoGc = refusal.NoGc
+refusal_of (why.Full full) = refusal.Full full
+refusal_of why.OutOfMemory = refusal.NoGc
+
 -- a registration
-abbrev pub type_made : Registry → List Handle → Result (Hold × Registry) Full → Outcome
+abbrev pub type_made : Registry → List Handle → Result (Hold × Registry) BuildRefusal → Outcome
 type_made registry row (Ok made) = with_type row made.0 made.1
-type_made registry row (Err full) = refused registry row (refusal.Full full)
+type_made registry row (Err cause) = refused registry row (refusal_of cause)
 
 abbrev pub held_again : Registry → List Handle → Hold → Result Registry Full → Outcome
 held_again registry row hold (Ok after) = with_type row hold after
@@ -100,24 +108,13 @@ debt_swept registry row party place (Some number) = debt_ended row place (swept 
 debt_swept registry row party place None = refused registry row (refusal.NoSuchHandle party kind.Debt place)
 
 -- the registration of a module's groups
-abbrev pub module_made : List Handle → Result (Collection × Registry) Full → Registry → Outcome
-module_made row (Ok made) registry = record {
+abbrev pub module_made : Registry → List Handle → Result (Collection × Registry) BuildRefusal → Outcome
+module_made registry row (Ok made) = record {
   reply = reply.Module (length row) (map (λ i. i.0) made.0.map);
   registry = made.1;
   row = row ++ handle.Module made.0 ∷ [];
 }
-module_made row (Err full) registry = refused registry row (refusal.Full full)
-
--- the same, where no rule is broken: an engine without garbage collection takes functions alone
-abbrev pub module_allowed : Registry → List Handle → ℕ → List WasmRecGroup → Outcome
-module_allowed registry row party groups =
-    if registry.engine.gc || are_functions groups
-    then module_made row (register_groups registry party groups) registry
-    else refused registry row refusal.NoGc
-
-abbrev pub module_checked : Registry → List Handle → ℕ → List WasmRecGroup → Option (Place × Rule) → Outcome
-module_checked registry row party groups (Some broken) = refused registry row (refusal.InvalidModule broken.0 broken.1)
-module_checked registry row party groups None = module_allowed registry row party groups
+module_made registry row (Err cause) = refused registry row (refusal_of cause)
 
 -- the end of a handle on a module
 abbrev pub module_released : Registry → List Handle → ℕ → ℕ → Option Collection → Outcome
@@ -131,7 +128,7 @@ module_released registry row party place None = refused registry row (refusal.No
 -- What a command comes to, for a party below the limit that has these handles.
 abbrev pub outcome_of : Registry → List Handle → Command → Outcome
 outcome_of registry row (command.HostType by sub) = type_made registry row (register registry by (sub_type_of sub))
-outcome_of registry row (command.Module by types) = module_checked registry row by types.groups (first_broken types.groups)
+outcome_of registry row (command.Module by types) = module_made registry row (register_groups registry by types.groups)
 outcome_of registry row (command.Clone by place) = clone_made registry row by place (type_at row place)
 outcome_of registry row (command.Root by index) = root_made registry row (rooted registry by (record { 0 = index }))
 outcome_of registry row (command.Drop by place) = type_dropped registry row by place (type_at row place)
@@ -145,10 +142,23 @@ outcome_of registry row (command.Live by) = record { reply = reply.Live (live_of
 abbrev pub full_of_parties : World → ℕ → Full
 full_of_parties world party = record { limit = Parties; bound = world.registry.engine.limits.parties; wanted = party + 1 }
 
+-- a count with one more: it stands still at the greatest number of 64 bits
+abbrev pub raised : ℕ → ℕ
+raised count = if nat_lt count 18446744073709551615 then count + 1 else count
+
+-- what was made so far after a reply: one module more where a module was registered
+abbrev pub counts_after : Reply → ObjectCounts → ObjectCounts
+counts_after (reply.Module place indices) counts = record counts { modules = raised counts.modules }
+counts_after other counts = counts
+
 abbrev pub with_outcome : World → ℕ → Outcome → Reply × World
 with_outcome world party outcome = (
   outcome.reply,
-  record world { registry = outcome.registry; handles = slice_set world.handles party outcome.row },
+  record {
+    registry = outcome.registry;
+    handles = slice_set world.handles party outcome.row;
+    counts = counts_after outcome.reply world.counts;
+  },
 )
 
 -- the reply to a command by a party below the limit, and the session after it

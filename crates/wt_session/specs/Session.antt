@@ -2,12 +2,16 @@
 use Rattle.std.specs.Prelude.{◌≡◌, ◌≢◌, ℕ, ◌-◌, ◌≤◌, List, [], ◌++◌, length, map, replicate, Some}
 use Rattle.wt_env.specs.Limits.{EngineParts}
 use Rattle.wt_env.specs.declared.types.VMSharedTypeIndex.{VMSharedTypeIndex}
-use Rattle.wt_registry.specs.Registry.{Registry, Hold, Among, number_of, held_at, empty_registry}
-use Rattle.wt_registry.specs.Plan.{Collection, times}
+use Rattle.wt_registry.specs.Registered.{Registry, empty_registry}
+use Rattle.wt_registry.specs.Holds.{Hold, held_at}
+use Rattle.wt_env.specs.Among.{Among}
+use Rattle.wt_registry.specs.Indices.{number_of}
+use Rattle.wt_registry.specs.Holds.{Collection, times}
 use Rattle.wt_registry.specs.Sound.{IsSound}
+use Rattle.wt_session.specs.declared.counts.ObjectCounts.{ObjectCounts}
 use Rattle.wt_session.specs.declared.handle.Handle.{Handle}
 use Rattle.wt_session.specs.declared.handle.Handle.TheVariants as handle
-use Rattle.wt_session.specs.declared.rows.Row.{Row}
+use Rattle.wt_session.specs.declared.party_handles.PartyHandles.{PartyHandles}
 use Rattle.wt_session.specs.World.{World, no_counts, held_in, row_of}
 
 -- a session of the engine in which nothing was done
@@ -19,29 +23,42 @@ new_world engine = record {
 }
 
 -- the handles of each party that has a row
-abbrev pub rows_of : List Row → List (List Handle)
+abbrev pub rows_of : List PartyHandles → List (List Handle)
 rows_of rows = map (λ row. row.handles.items) rows
 
 -- the handles of each party below the limit: one without a row has none
 abbrev pub padded : ℕ → List (List Handle) → List (List Handle)
 padded parties rows = rows ++ replicate (parties - length rows) []
 
-abbrev pub world_of : Registry → List (List Handle) → World
-world_of registry rows = record {
+abbrev pub world_of : Registry → ObjectCounts → List (List Handle) → World
+world_of registry counts rows = record {
   registry = registry;
   handles = padded registry.engine.limits.parties rows;
-  counts = no_counts;
+  counts = counts;
 }
 
--- A party's handles are its holds: it holds each group as often as handles hold it; each handle on a type
--- is one of the engine and the party, with an index of its group, and each handle on a module is one of the
--- engine and the party.
+-- a handle on a type: of the engine and the party, with an index of its group
+pub record IsTypeHandle (registry : Registry) (party : ℕ) (hold : Hold) : Type 0 where
+  pub engine : registry.engine.number ≡ hold.engine
+  pub owner : hold.party ≡ party
+  pub located : number_of registry.made hold.index ≡ Some hold.number
+
+-- a handle on a module: of the engine and the party
+pub record IsModuleHandle (registry : Registry) (party : ℕ) (types : Collection) : Type 0 where
+  pub engine : registry.engine.number ≡ types.engine
+  pub owner : types.party ≡ party
+
+-- what is true of each handle of a party
+abbrev pub IsHandleOf : Registry → ℕ → Handle → Type 0
+IsHandleOf registry party (handle.Type hold) = IsTypeHandle registry party hold
+IsHandleOf registry party (handle.Owed number) = Unit {0}
+IsHandleOf registry party (handle.Module types) = IsModuleHandle registry party types
+IsHandleOf registry party handle.Ended = Unit {0}
+
+-- A party's handles are its holds: it holds each group as often as handles hold it.
 pub record AreHandles (registry : Registry) (party : ℕ) (row : List Handle) : Type 0 where
   pub counted : (number : ℕ) → held_at registry.standings party number ≡ times number (held_in row)
-  pub engine : (hold : Hold) → Among (handle.Type hold) row → registry.engine.number ≡ hold.engine
-  pub owner : (hold : Hold) → Among (handle.Type hold) row → hold.party ≡ party
-  pub located : (hold : Hold) → Among (handle.Type hold) row → number_of registry.made hold.index ≡ Some hold.number
-  pub modules : (types : Collection) → Among (handle.Module types) row → (registry.engine.number ≡ types.engine) × (types.party ≡ party)
+  pub each : (own : Handle) → Among own row → IsHandleOf registry party own
 
 -- a registry that is kept true for the parties that have these handles
 pub record IsKept (registry : Registry) (rows : List (List Handle)) : Type 0 where

@@ -1,32 +1,30 @@
 -- A session as contracts see it, and which groups are registered in it.
-use Rattle.std.specs.Prelude.{◌≡◌, ℕ, ◌+◌, ◌==◌, zero, suc, if◌then◌else◌, List, [], ◌∷◌, ◌++◌, slice_get, Bool, true, false, Option, Some, None}
+use Rattle.std.specs.Prelude.{◌≡◌, ℕ, zero, suc, List, [], ◌∷◌, ◌++◌, slice_get, Bool, true, false, Option, Some, None}
 use Rattle.std.specs.List.{flat_map}
-use Rattle.wt_registry.specs.Registry.{Made, Registry, Hold, Among, waiting}
-use Rattle.wt_registry.specs.Plan.{Collection}
-use Rattle.wt_registry.specs.Validity.{AreCountable, AreModuleTypes}
+use Rattle.wt_registry.specs.Registered.{RegisteredGroup, Registry}
+use Rattle.wt_registry.specs.Holds.{Hold, waiting}
+use Rattle.wt_env.specs.Among.{Among}
+use Rattle.wt_registry.specs.Holds.{Collection}
+use Rattle.wt_registry.specs.Rules.{AreCountable, AreModuleTypes}
 use Rattle.wt_registry.specs.Sound.{IsRising}
 use Rattle.wt_registry.specs.Reach.{Reach}
 use Rattle.wt_session.specs.declared.command.Command.{Command}
 use Rattle.wt_session.specs.declared.command.Command.TheVariants as command
+use Rattle.wt_session.specs.declared.counts.ObjectCounts.{ObjectCounts}
 use Rattle.wt_session.specs.declared.handle.Handle.{Handle}
 use Rattle.wt_session.specs.declared.handle.Handle.TheVariants as handle
-use Rattle.wt_session.specs.declared.reply.HandleKind.{HandleKind}
-use Rattle.wt_session.specs.declared.reply.HandleKind.TheVariants as kind
+use Rattle.wt_model.specs.declared.handle_kind.HandleKind.{HandleKind}
+use Rattle.wt_model.specs.declared.handle_kind.HandleKind.TheVariants as kind
 
--- how many of each were made so far, over all parties
-pub record Counts : Type 0 where
-  pub stores : ℕ
-  pub modules : ℕ
-  pub components : ℕ
-  pub component_instances : ℕ
-
--- A session: its registry, and the handles of each party below the limit, by their numbers.
+-- A session: its registry, the handles of each party below the limit, by their numbers, and how many of each
+-- kind of object were made so far, over all parties.
 pub record World : Type 0 where
   pub registry : Registry
   pub handles : List (List Handle)
-  pub counts : Counts
+  pub counts : ObjectCounts
 
-abbrev pub no_counts : Counts
+-- nothing was made yet
+abbrev pub no_counts : ObjectCounts
 no_counts = record { stores = 0; modules = 0; components = 0; component_instances = 0 }
 
 -- the party whose command it is
@@ -40,16 +38,13 @@ party_of (command.Sweep by place) = by
 party_of (command.Release by place) = by
 party_of (command.Live by) = by
 
--- the handle that a command names, with the kind that it has to be of
-abbrev pub named_by : Command → Option (HandleKind × ℕ)
-named_by (command.HostType by sub) = None
-named_by (command.Module by types) = None
-named_by (command.Clone by place) = Some (kind.Type, place)
-named_by (command.Root by index) = None
-named_by (command.Drop by place) = Some (kind.Type, place)
-named_by (command.Sweep by place) = Some (kind.Debt, place)
-named_by (command.Release by place) = Some (kind.Module, place)
-named_by (command.Live by) = None
+-- the handles that a command names, in the order of its keys, with the kinds that they have to be of
+abbrev pub named_handles : Command → List (HandleKind × ℕ)
+named_handles (command.Clone by place) = (kind.Type, place) ∷ []
+named_handles (command.Drop by place) = (kind.Type, place) ∷ []
+named_handles (command.Sweep by place) = (kind.Debt, place) ∷ []
+named_handles (command.Release by place) = (kind.Module, place) ∷ []
+named_handles other = []
 
 -- a drop, a sweep and a release take no memory
 abbrev pub takes_memory : Command → Bool
@@ -66,15 +61,19 @@ takes_memory (command.Live by) = true
 abbrev pub TakeNoMemory : List Command → Type 0
 TakeNoMemory commands = (command : Command) → Among command commands → takes_memory command ≡ false
 
+-- there is a command at this place, and it takes memory
+abbrev pub TakesMemoryAt : ℕ → List Command → Type 0
+TakesMemoryAt place commands = (command : Command) × (slice_get commands place ≡ Some command) × (takes_memory command ≡ true)
+
 -- the registration numbers that a handle holds
-abbrev pub held_by : Handle → List ℕ
-held_by (handle.Type hold) = hold.number ∷ []
-held_by (handle.Owed number) = []
-held_by (handle.Module types) = types.numbers
-held_by handle.Ended = []
+abbrev pub numbers_held : Handle → List ℕ
+numbers_held (handle.Type hold) = hold.number ∷ []
+numbers_held (handle.Owed number) = []
+numbers_held (handle.Module types) = types.numbers
+numbers_held handle.Ended = []
 
 abbrev pub held_in : List Handle → List ℕ
-held_in row = flat_map held_by row
+held_in row = flat_map numbers_held row
 
 -- the registration numbers that all parties' handles hold
 abbrev pub holds : World → List ℕ
@@ -88,8 +87,8 @@ IsReached world number =
 -- the registered groups, in order of their numbers, are exactly those reached
 pub record HasExactlyReached (world : World) : Type 0 where
   pub in_order : IsRising 0 world.registry.made world.registry.given.numbers
-  pub every : (group : Made) → Among group world.registry.made → IsReached world group.number
-  pub only : (number : ℕ) → IsReached world number → (group : Made) × Among group world.registry.made × (group.number ≡ number)
+  pub every : (group : RegisteredGroup) → Among group world.registry.made → IsReached world group.number
+  pub only : (number : ℕ) → IsReached world number → (group : RegisteredGroup) × Among group world.registry.made × (group.number ≡ number)
 
 -- the handles of a party
 abbrev pub row_of : ℕ → List (List Handle) → List Handle
@@ -98,33 +97,24 @@ row_of zero (row ∷ rows) = row
 row_of (suc party) (row ∷ rows) = row_of party rows
 
 abbrev pub type_in : Option Handle → Option Hold
-type_in None = None
 type_in (Some (handle.Type hold)) = Some hold
-type_in (Some (handle.Owed number)) = None
-type_in (Some (handle.Module types)) = None
-type_in (Some handle.Ended) = None
+type_in other = None
 
 -- the hold of a type handle
 abbrev pub type_at : List Handle → ℕ → Option Hold
 type_at row place = type_in (slice_get row place)
 
 abbrev pub debt_in : Option Handle → Option ℕ
-debt_in None = None
-debt_in (Some (handle.Type hold)) = None
 debt_in (Some (handle.Owed number)) = Some number
-debt_in (Some (handle.Module types)) = None
-debt_in (Some handle.Ended) = None
+debt_in other = None
 
 -- the registration number of the group that a debt's party is to sweep
 abbrev pub debt_at : List Handle → ℕ → Option ℕ
 debt_at row place = debt_in (slice_get row place)
 
 abbrev pub module_in : Option Handle → Option Collection
-module_in None = None
-module_in (Some (handle.Type hold)) = None
-module_in (Some (handle.Owed number)) = None
 module_in (Some (handle.Module types)) = Some types
-module_in (Some handle.Ended) = None
+module_in other = None
 
 -- what a party holds by a handle on a module
 abbrev pub module_at : List Handle → ℕ → Option Collection

@@ -3,13 +3,15 @@
 ghost use Rattle.std.specs.Prelude.{◌≡◌, ◌<◌, false, IfOk, OnErr, IsOk};
 ghost use Rattle.wt_session.specs.World.{party_of, takes_memory, IsCommand};
 ghost use Rattle.wt_session.specs.Run.{outcome_of, done_by};
+ghost use Rattle.wt_session.specs.Answered.{trees_asked, NamesTrees};
 ghost use Rattle.wt_session.specs.Session.{rows_of, world_of, AreHandles, IsKept, Keeps};
 
 use crate::command::Command;
+use crate::counts::ObjectCounts;
 use crate::handle::Handle;
 use crate::module_handles::{register_module, release_module};
+use crate::party_handles::{PartyHandles, add_missing_parties};
 use crate::reply::Reply;
-use crate::rows::{Row, reach};
 use crate::type_handles::{
     clone_type, drop_type, no_such_handle, register_type, root_type, sweep_debt,
 };
@@ -19,7 +21,7 @@ use wt_registry::registered_type::PartyNumber;
 use wt_registry::registry::TypeRegistry;
 
 /// One command of a party below the limit, on the party's handles.
-fn act(
+fn run_command(
     alloc: Global,
     registry: &mut TypeRegistry,
     party: &mut PartyNumber,
@@ -32,9 +34,10 @@ fn act(
     requires handles { AreHandles registry.old party.old row.old.items }
     ensures ok { IfOk result (λ reply. outcome_of registry.old row.old.items command.now
         ≡ record { reply = reply; registry = registry.new; row = row.new.items }) }
+    ensures named { IfOk result (λ reply. NamesTrees registry.new.made reply (trees_asked registry.old command.now)) }
     ensures err { OnErr result ((registry.new ≡ registry.old) × (row.new.items ≡ row.old.items)) }
     ensures keeps { Keeps registry.old registry.new party.old row.new.items }
-    ensures calm { takes_memory command.now ≡ false → IsOk result }
+    ensures takes_no_memory { takes_memory command.now ≡ false → IsOk result }
 {
     match command {
         Command::HostType { by: _, sub } => register_type(alloc, registry, party, row, sub),
@@ -49,10 +52,11 @@ fn act(
 }
 
 /// One command of a party below the limit. A drop, a sweep and a release take no memory.
-pub(crate) fn act_by(
+pub(crate) fn run_command_of_party(
     alloc: Global,
     registry: &mut TypeRegistry,
-    rows: &mut Vec<Row>,
+    counts: &mut ObjectCounts,
+    rows: &mut Vec<PartyHandles>,
     party: u32,
     command: &Command,
 ) -> Result<Reply, OutOfMemory>
@@ -60,20 +64,22 @@ pub(crate) fn act_by(
     requires by { party ≡ party_of command.now }
     requires below { party < registry.old.engine.limits.parties }
     requires kept { IsKept registry.old (rows_of rows.old.items) }
-    ensures ok { IfOk result (λ reply. done_by (world_of registry.old (rows_of rows.old.items)) command.now
-        ≡ (reply, world_of registry.new (rows_of rows.new.items))) }
-    ensures err { OnErr result (world_of registry.new (rows_of rows.new.items) ≡ world_of registry.old (rows_of rows.old.items)) }
+    ensures ok { IfOk result (λ reply. done_by (world_of registry.old counts.old (rows_of rows.old.items)) command.now
+        ≡ (reply, world_of registry.new counts.new (rows_of rows.new.items))) }
+    ensures named { IfOk result (λ reply. NamesTrees registry.new.made reply (trees_asked registry.old command.now)) }
+    ensures err { OnErr result (world_of registry.new counts.new (rows_of rows.new.items) ≡ world_of registry.old counts.old (rows_of rows.old.items)) }
     ensures kept { IsKept registry.new (rows_of rows.new.items) }
-    ensures calm { takes_memory command.now ≡ false → IsOk result }
+    ensures takes_no_memory { takes_memory command.now ≡ false → IsOk result }
 {
-    if let Some((kind, handle)) = command.named() {
+    if let Some((kind, handle)) = command.first_named_handle() {
         if rows.len() <= party as usize {
             return Ok(no_such_handle(party, kind, handle));
         }
     }
-    reach(alloc, rows, party)?;
+    add_missing_parties(alloc, rows, party)?;
     let mut number = PartyNumber::new(party);
     let row = &mut rows[party as usize].handles;
-    let reply = act(alloc, registry, &mut number, row, command)?;
+    let reply = run_command(alloc, registry, &mut number, row, command)?;
+    counts.add_made(&reply);
     Ok(reply)
 }

@@ -6,7 +6,7 @@ ghost use Rattle.wt_session.specs.World.{IsCommand, AreCommands};
 use crate::reply::HandleKind;
 use wt_env::seq::Seq;
 use wt_env::types::ModuleTypes;
-use wt_registry::validity::{are_countable, are_module_types};
+use wt_registry::rules::{are_countable, are_module_types};
 
 /// A value type as a command of the host names it.
 #[derive(Clone, Copy, Debug, PartialEq, Eq)]
@@ -50,8 +50,8 @@ pub enum Command {
 }
 
 impl Command {
-    ghost use Rattle.std.specs.Prelude.{◌≡◌};
-    ghost use Rattle.wt_session.specs.World.{party_of, named_by};
+    ghost use Rattle.std.specs.Prelude.{◌≡◌, slice_get};
+    ghost use Rattle.wt_session.specs.World.{party_of, named_handles};
 
     /// The number of the party whose command it is.
     pub fn by(&self) -> u32
@@ -69,9 +69,9 @@ impl Command {
         }
     }
 
-    /// The handle that the command names, with the kind that it has to be of.
-    pub(crate) fn named(&self) -> Option<(HandleKind, u32)>
-        ensures { result ≡ named_by self.now }
+    /// The first handle that the command names, with the kind that it has to be of.
+    pub(crate) fn first_named_handle(&self) -> Option<(HandleKind, u32)>
+        ensures { result ≡ slice_get (named_handles self.now) 0 }
     {
         match self {
             Command::Clone { by: _, handle } => Some((HandleKind::Type, *handle)),

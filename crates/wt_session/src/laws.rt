@@ -1,9 +1,9 @@
 //! Facts that follow from the contracts, each carried by a call.
 
-ghost use Rattle.std.specs.Prelude.{◌≡◌, ℕ, ◌≤◌, ◌++◌, [], length, take, OnOk, OnErr};
-ghost use Rattle.wt_registry.specs.Registry.{waiting};
+ghost use Rattle.std.specs.Prelude.{◌≡◌, ℕ, ◌≤◌, ◌⊎◌, ◌++◌, [], length, take, OnOk, OnErr};
+ghost use Rattle.wt_registry.specs.Holds.{waiting};
 ghost use Rattle.wt_registry.specs.Sound.{OneIndexPerTree};
-ghost use Rattle.wt_session.specs.World.{HasExactlyReached, AreCommands, holds};
+ghost use Rattle.wt_session.specs.World.{HasExactlyReached, TakesMemoryAt, AreCommands, holds};
 ghost use Rattle.wt_session.specs.Run.{replies_of, world_after};
 
 use crate::command::Command;
@@ -13,7 +13,7 @@ use crate::session::Session;
 use wt_env::memory::OutOfMemory;
 
 /// Runs one list of commands and then another. That is the run of the two lists joined, with the same
-/// refusal.
+/// refusal, which may come between the two as well: the room for the second list's replies is taken there.
 pub fn run_both(
     session: &mut Session,
     first: &[Command],
@@ -26,7 +26,8 @@ pub fn run_both(
     ensures world { OnOk result (session.new ≡ world_after session.old (first.now ++ second.now)) }
     ensures err { OnErr result ((n : ℕ) × (n ≤ length (first.now ++ second.now))
         × (replies.new.items ≡ replies.old.items ++ replies_of session.old (take n (first.now ++ second.now)))
-        × (session.new ≡ world_after session.old (take n (first.now ++ second.now)))) }
+        × (session.new ≡ world_after session.old (take n (first.now ++ second.now)))
+        × ((n ≡ 0) ⊎ (n ≡ length first.now) ⊎ TakesMemoryAt n (first.now ++ second.now))) }
     ensures one_index { OneIndexPerTree session.new.registry.made }
     ensures reached { HasExactlyReached session.new }
 {
@@ -40,5 +41,5 @@ pub fn nothing_stands(session: &Session)
     requires waits { waiting session.now.registry.standings ≡ [] }
     ensures { session.now.registry.made ≡ [] }
 {
-    session.assure();
+    session.tell_invariant();
 }

@@ -1,14 +1,23 @@
-//! Sessions: parties, their handles, their commands and the replies.
+//! Sessions: parties, their handles, their commands and the replies. The modules stand in the order in which a
+//! command passes them.
 #![tactic(auto)]
 
-mod acting;
+// A command comes to a session,
 pub mod command;
-pub mod handle;
-mod host;
-pub mod laws;
-mod module_handles;
-pub mod reply;
-pub mod rows;
-pub mod run;
 pub mod session;
+// which finds the handles of the command's party,
+mod acting;
+pub mod handle;
+pub mod party_handles;
+// and does what is asked of them: on types,
+mod host;
 mod type_handles;
+// and on modules.
+mod module_handles;
+// What was made is counted, and a reply is given.
+pub mod counts;
+pub mod reply;
+// Commands are run in turn.
+pub mod run;
+// What follows from the contracts.
+pub mod laws;

@@ -1,20 +1,21 @@
 //! A party's handles on modules: how they are made and released.
 
 ghost use Rattle.std.specs.Prelude.{◌≡◌, ◌+◌, ◌^◌, ◌<◌, ◌≤◌, ◌++◌, ◌∷◌, [], length, map, IfOk, OnErr, Some, slice_get, vec_len, vec_capacity};
-ghost use Rattle.wt_registry.specs.Validity.{AreCountable, AreModuleTypes, first_broken, total_members};
+ghost use Rattle.wt_registry.specs.Rules.{AreCountable, AreModuleTypes, total_members};
+ghost use Rattle.wt_registry.specs.Registration.{register_groups, module_groups, trees_of};
 ghost use Rattle.wt_session.specs.World.{module_at};
-ghost use Rattle.wt_session.specs.Run.{module_checked, module_released};
+ghost use Rattle.wt_session.specs.Run.{module_made, module_released};
+ghost use Rattle.wt_session.specs.Answered.{NamesTrees};
 ghost use Rattle.wt_session.specs.Session.{AreHandles, Keeps};
 
 use crate::handle::Handle;
-use crate::reply::{HandleKind, Refusal, Reply};
-use crate::type_handles::{no_such_handle, put, take};
+use crate::reply::{HandleKind, Reply};
+use crate::type_handles::{no_such_handle, put, refuse, take};
 use std::alloc::Global;
 use wt_env::memory::OutOfMemory;
 use wt_env::seq::Seq;
 use wt_env::types::{ModuleTypes, VMSharedTypeIndex, WasmRecGroup};
 use wt_registry::collection::TypeCollection;
-use wt_registry::refusal::BuildRefusal;
 use wt_registry::registered_type::PartyNumber;
 use wt_registry::registry::TypeRegistry;
 
@@ -71,8 +72,9 @@ pub(crate) fn register_module(
     requires named { AreModuleTypes groups.now.groups }
     requires below { party.old < registry.old.engine.limits.parties }
     requires handles { AreHandles registry.old party.old row.old.items }
-    ensures ok { IfOk result (λ reply. module_checked registry.old row.old.items party.old groups.now.groups (first_broken groups.now.groups)
+    ensures ok { IfOk result (λ reply. module_made registry.old row.old.items (register_groups registry.old party.old groups.now.groups)
         ≡ record { reply = reply; registry = registry.new; row = row.new.items }) }
+    ensures named { IfOk result (λ reply. NamesTrees registry.new.made reply (Some (trees_of registry.old.made (module_groups groups.now.groups)))) }
     ensures err { OnErr result ((registry.new ≡ registry.old) × (row.new.items ≡ row.old.items)) }
     ensures party { party.new ≡ party.old }
     ensures keeps { Keeps registry.old registry.new party.old row.new.items }
@@ -82,12 +84,7 @@ pub(crate) fn register_module(
     numbers.reserve(type_count(groups.groups.as_slice()))?;
     match registry.register_module(party, groups) {
         Ok(types) => Ok(push_module(row, numbers, types)),
-        Err(BuildRefusal::InvalidModule { place, rule }) => {
-            Ok(Reply::Refused(Refusal::InvalidModule { place, rule }))
-        }
-        Err(BuildRefusal::NoGc) => Ok(Reply::Refused(Refusal::NoGc)),
-        Err(BuildRefusal::Full(full)) => Ok(Reply::Refused(Refusal::Full(full))),
-        Err(BuildRefusal::OutOfMemory) => Err(OutOfMemory),
+        Err(why) => refuse(why),
     }
 }
 

@@ -1,20 +1,11 @@
 //! What a session answers to a command.
 
 use wt_env::seq::Seq;
-use wt_registry::debt::Swept;
+pub use wt_registry::handle_kind::HandleKind;
 use wt_registry::live::LiveGroup;
-use wt_registry::refusal::{Full, Place, Rule};
-
-/// What a handle stands for, as a command needs it.
-#[derive(Clone, Copy, Debug, PartialEq, Eq)]
-pub enum HandleKind {
-    /// A registered type that the party holds.
-    Type,
-    /// A group that waits for the party's sweep.
-    Debt,
-    /// The types of a module.
-    Module,
-}
+use wt_registry::place::{Place, Rule};
+use wt_registry::refusal::Full;
+use wt_registry::swept::Swept;
 
 /// Why a command was refused. A refused command changes nothing.
 #[derive(Clone, Copy, Debug, PartialEq, Eq)]
@@ -46,8 +37,8 @@ pub enum Reply {
     Module { handle: u64, indices: Seq<u32> },
     /// No registered type has the index.
     NoneFound,
-    /// The handle was dropped, and its number is that of a debt now: nobody holds the type's group any more,
-    /// which waits for a sweep.
+    /// The handle was dropped, and its number is that of a debt now: no hold and no waiting group reaches the
+    /// type's group any more, which waits for a sweep.
     Owed,
     /// The handle was dropped, and nothing is owed.
     Dropped,

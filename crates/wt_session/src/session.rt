@@ -1,9 +1,10 @@
 //! A session: an engine's registry, and what each party holds of it.
 
-use crate::acting::act_by;
+use crate::acting::run_command_of_party;
 use crate::command::Command;
+use crate::counts::ObjectCounts;
+use crate::party_handles::PartyHandles;
 use crate::reply::{Refusal, Reply};
-use crate::rows::Row;
 use std::alloc::Global;
 use std::marker::Model;
 use wt_env::limits::{Engine, Limit};
@@ -17,7 +18,8 @@ use wt_registry::registry::TypeRegistry;
 pub struct Session {
     alloc: Global,
     registry: TypeRegistry,
-    rows: Vec<Row>,
+    counts: ObjectCounts,
+    rows: Vec<PartyHandles>,
 }
 
 impl Model for Session {
@@ -26,7 +28,7 @@ impl Model for Session {
 
     ghost Value = { World };
 
-    ghost view = { λ session. world_of session.registry (rows_of session.rows.items) };
+    ghost view = { λ session. world_of session.registry session.counts (rows_of session.rows.items) };
 
     ghost invariant = { λ session. IsKept session.registry (rows_of session.rows.items) };
 }
@@ -37,6 +39,7 @@ impl Session {
     ghost use Rattle.wt_registry.specs.Live.{live_of};
     ghost use Rattle.wt_session.specs.World.{HasExactlyReached, takes_memory, IsCommand};
     ghost use Rattle.wt_session.specs.Run.{step};
+    ghost use Rattle.wt_session.specs.Answered.{IsAnswered};
     ghost use Rattle.wt_session.specs.Session.{new_world};
 
     /// A session of the engine in which nothing was done. It takes no memory.
@@ -46,6 +49,7 @@ impl Session {
         Session {
             alloc,
             registry: TypeRegistry::new(alloc, &engine),
+            counts: ObjectCounts::none(),
             rows: Vec::new(alloc),
         }
     }
@@ -61,7 +65,7 @@ impl Session {
     }
 
     /// What is true of every session.
-    pub(crate) fn assure(&self)
+    pub(crate) fn tell_invariant(&self)
         ensures reached { HasExactlyReached self.now }
         ensures one_index { OneIndexPerTree self.now.registry.made }
     {
@@ -72,8 +76,11 @@ impl Session {
     pub(crate) fn step(&mut self, command: &Command) -> Result<Reply, OutOfMemory>
         requires { IsCommand command.now }
         ensures ok { IfOk result (λ reply. step self.old command.now ≡ (reply, self.new)) }
+        ensures answered { IfOk result (λ reply. IsAnswered self.old command.now reply self.new) }
         ensures err { OnErr result (self.new ≡ self.old) }
-        ensures calm { takes_memory command.now ≡ false → IsOk result }
+        ensures takes_no_memory { takes_memory command.now ≡ false → IsOk result }
+        ensures one_index { OneIndexPerTree self.new.registry.made }
+        ensures reached { HasExactlyReached self.new }
     {
         let party = command.by();
         let bound = self.registry.engine().limits().parties;
@@ -84,9 +91,10 @@ impl Session {
                 wanted: party as u64 + 1,
             })));
         }
-        act_by(
+        run_command_of_party(
             self.alloc,
             &mut self.registry,
+            &mut self.counts,
             &mut self.rows,
             party,
             command,
@@ -98,6 +106,7 @@ impl Session {
         let Session {
             alloc: _,
             registry: _,
+            counts: _,
             rows: mut rows,
         } = self;
         while let Some(row) = rows.pop() {

@@ -1,11 +1,12 @@
 //! A party's handles on types: how they are made, dropped and swept.
 
-ghost use Rattle.std.specs.Prelude.{◌≡◌, ◌<◌, ◌++◌, ◌∷◌, [], length, IfOk, OnErr, Some, slice_get, slice_set, vec_len, vec_capacity};
+ghost use Rattle.std.specs.Prelude.{◌≡◌, ◌≢◌, ◌<◌, ◌++◌, ◌∷◌, [], length, IfOk, OnErr, Some, slice_get, slice_set, vec_len, vec_capacity};
 ghost use Rattle.std.specs.Option.{option_copied};
-ghost use Rattle.wt_registry.specs.Registry.{root as rooted};
-ghost use Rattle.wt_registry.specs.Plan.{register};
+ghost use Rattle.wt_registry.specs.Holds.{root as rooted};
+ghost use Rattle.wt_registry.specs.Registration.{register, host_type, trees_of};
 ghost use Rattle.wt_session.specs.World.{type_at, debt_at};
-ghost use Rattle.wt_session.specs.Run.{sub_type_of, type_made, clone_made, root_made, type_dropped, debt_swept};
+ghost use Rattle.wt_session.specs.Run.{sub_type_of, refusal_of, type_made, clone_made, root_made, type_dropped, debt_swept};
+ghost use Rattle.wt_session.specs.Answered.{NamesTrees};
 ghost use Rattle.wt_session.specs.Session.{AreHandles, Keeps};
 
 use crate::command::HostSub;
@@ -29,6 +30,20 @@ pub(crate) fn no_such_handle(party: u32, kind: HandleKind, handle: u32) -> Reply
         kind,
         handle,
     })
+}
+
+/// The reply to a registration that is refused; want of memory is handed on.
+pub(crate) fn refuse(why: BuildRefusal) -> Result<Reply, OutOfMemory>
+    ensures { IfOk result (λ reply. (reply ≡ Reply.Refused (refusal_of why)) × (why ≢ BuildRefusal.OutOfMemory)) }
+{
+    match why {
+        BuildRefusal::InvalidModule { place, rule } => {
+            Ok(Reply::Refused(Refusal::InvalidModule { place, rule }))
+        }
+        BuildRefusal::NoGc => Ok(Reply::Refused(Refusal::NoGc)),
+        BuildRefusal::Full(full) => Ok(Reply::Refused(Refusal::Full(full))),
+        BuildRefusal::OutOfMemory => Err(OutOfMemory),
+    }
 }
 
 /// Puts a handle after the others, and replies with its number.
@@ -57,6 +72,7 @@ pub(crate) fn register_type(
     requires handles { AreHandles registry.old party.old row.old.items }
     ensures ok { IfOk result (λ reply. type_made registry.old row.old.items (register registry.old party.old (sub_type_of sub.now))
         ≡ record { reply = reply; registry = registry.new; row = row.new.items }) }
+    ensures named { IfOk result (λ reply. NamesTrees registry.new.made reply (Some (trees_of registry.old.made (host_type (sub_type_of sub.now))))) }
     ensures err { OnErr result ((registry.new ≡ registry.old) × (row.new.items ≡ row.old.items)) }
     ensures party { party.new ≡ party.old }
     ensures keeps { Keeps registry.old registry.new party.old row.new.items }
@@ -65,9 +81,7 @@ pub(crate) fn register_type(
     let ty = sub_type(alloc, sub)?;
     match RegisteredType::new(registry, party, ty) {
         Ok(hold) => Ok(push_type(row, hold)),
-        Err(BuildRefusal::Full(full)) => Ok(Reply::Refused(Refusal::Full(full))),
-        Err(BuildRefusal::OutOfMemory) => Err(OutOfMemory),
-        Err(BuildRefusal::InvalidModule { .. } | BuildRefusal::NoGc) => unreachable!(),
+        Err(why) => refuse(why),
     }
 }
 
@@ -146,8 +160,8 @@ pub(crate) fn put(row: &mut Vec<Handle>, place: usize, handle: Handle)
     mem::replace(&mut row[place], handle).forget();
 }
 
-/// Ends a party's handle on a type. Where nobody holds the type's group any more, the handle is a debt now.
-/// It takes no memory.
+/// Ends a party's handle on a type. Where no hold and no waiting group reaches the type's group any more, the
+/// handle is a debt now. It takes no memory.
 pub(crate) fn drop_type(
     registry: &mut TypeRegistry,
     party: &mut PartyNumber,

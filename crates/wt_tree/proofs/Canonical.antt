@@ -8,9 +8,9 @@ use Rattle.wt_env.specs.declared.types.EngineOrModuleTypeIndex.{EngineOrModuleTy
 use Rattle.wt_env.specs.declared.types.EngineOrModuleTypeIndex.TheVariants as index
 use Rattle.wt_env.specs.declared.types.WasmSubType.{WasmSubType}
 use Rattle.wt_tree.specs.References.{group_refs, number_group}
-use Rattle.wt_tree.specs.Over.{LeavesOwn, leaves_group, over_group}
+use Rattle.wt_tree.specs.MapRefs.{LeavesOwn, leaves_group, map_group_refs}
 use Rattle.wt_tree.specs.Canonical.{known_at, known_index, own_index, canonical_index}
-use Rattle.wt_tree.proofs.Changing.{over_group-same, over_group-over}
+use Rattle.wt_tree.proofs.Changing.{map_group_refs-same, map_group_refs-over}
 use Rattle.wt_tree.proofs.Leaving.{leaves_own, number_group-over, group_refs-over}
 
 pub canonical_index-known : (start : ℕ) (known : List VMSharedTypeIndex) (i : EngineOrModuleTypeIndex) → canonical_index start known i ≡ known_index known (own_index start i)
@@ -34,19 +34,19 @@ known_index-leaves known = leaves_own (known_index known) (λ k. refl) leaving
     leaving (index.Module i) leaves = known_at-leaves (slice_get known i.0) i
     leaving (index.RecGroup k) leaves = absurd (false≢true leaves)
 
-pub canonical_group-known : (start : ℕ) (known : List VMSharedTypeIndex) (ts : List WasmSubType) → over_group (canonical_index start known) ts ≡ over_group (known_index known) (over_group (own_index start) ts)
+pub canonical_group-known : (start : ℕ) (known : List VMSharedTypeIndex) (ts : List WasmSubType) → map_group_refs (canonical_index start known) ts ≡ map_group_refs (known_index known) (map_group_refs (own_index start) ts)
 canonical_group-known start known ts =
-    over_group-same (canonical_index start known) (λ i. known_index known (own_index start i)) (canonical_index-known start known) ts
-    ∙ sym (over_group-over (known_index known) (own_index start) ts)
+    map_group_refs-same (canonical_index start known) (λ i. known_index known (own_index start i)) (canonical_index-known start known) ts
+    ∙ sym (map_group_refs-over (known_index known) (own_index start) ts)
 
 -- what is known doesn't change the numbered group
-pub canonical_group-numbers : (start : ℕ) (known : List VMSharedTypeIndex) (ts : List WasmSubType) → number_group (over_group (canonical_index start known) ts) ≡ number_group (over_group (own_index start) ts)
+pub canonical_group-numbers : (start : ℕ) (known : List VMSharedTypeIndex) (ts : List WasmSubType) → number_group (map_group_refs (canonical_index start known) ts) ≡ number_group (map_group_refs (own_index start) ts)
 canonical_group-numbers start known ts =
     ap number_group (canonical_group-known start known ts)
-    ∙ number_group-over (known_index known) (known_index-leaves known) (over_group (own_index start) ts)
+    ∙ number_group-over (known_index known) (known_index-leaves known) (map_group_refs (own_index start) ts)
 
 -- what leaves the canonical group is what leaves the group, by engine indices
-pub canonical_group-refs : (start : ℕ) (known : List VMSharedTypeIndex) (ts : List WasmSubType) → group_refs (over_group (canonical_index start known) ts) ≡ map (known_index known) (group_refs (over_group (own_index start) ts))
+pub canonical_group-refs : (start : ℕ) (known : List VMSharedTypeIndex) (ts : List WasmSubType) → group_refs (map_group_refs (canonical_index start known) ts) ≡ map (known_index known) (group_refs (map_group_refs (own_index start) ts))
 canonical_group-refs start known ts =
     ap group_refs (canonical_group-known start known ts)
-    ∙ group_refs-over (known_index known) (known_index-leaves known) (over_group (own_index start) ts)
+    ∙ group_refs-over (known_index known) (known_index-leaves known) (map_group_refs (own_index start) ts)

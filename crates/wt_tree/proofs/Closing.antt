@@ -2,7 +2,7 @@
 -- tells the descriptions apart.
 use Rattle.std.proofs.Common.{◌≡◌, ℕ, List, [], ◌∷◌, inl, inr, refl}
 use Rattle.wt_env.specs.declared.types.WasmSubType.{WasmSubType}
-use Rattle.wt_tree.specs.Among.{Among}
+use Rattle.wt_env.specs.Among.{Among}
 use Rattle.wt_tree.specs.Tree.{Description, Tree, Outer, group, outer, close_outer, close}
 
 group-injective : (a b : List WasmSubType) (x y : Outer) → group a x ≡ group b y → (a ≡ b) × (x ≡ y)

@@ -16,7 +16,7 @@ use Rattle.wt_env.specs.declared.types.WasmCompositeInnerType.{WasmCompositeInne
 use Rattle.wt_env.specs.declared.types.WasmCompositeInnerType.TheVariants as shape
 use Rattle.wt_env.specs.declared.types.WasmSubType.{WasmSubType}
 use Rattle.wt_tree.specs.References.{index_refs, heap_refs, val_refs, vals_refs, storage_refs, fields_refs, shape_refs, super_refs, sub_refs, group_refs, number_index, number_heap, number_val, number_vals, number_storage, number_field, number_fields, number_shape, number_sub, number_group_from, number_group}
-use Rattle.wt_tree.specs.Over.{LeavesOwn, leaves_group, over_heap, over_val, over_vals, over_storage, over_field, over_fields, over_shape, over_sub, over_group}
+use Rattle.wt_tree.specs.MapRefs.{LeavesOwn, leaves_group, map_heap_refs, map_val_refs, map_vals_refs, map_storage_refs, map_field_refs, map_fields_refs, map_shape_refs, map_sub_refs, map_group_refs}
 
 module _ (f : EngineOrModuleTypeIndex → EngineOrModuleTypeIndex) (leaves : LeavesOwn f) where
   join-over : (a b c d : List EngineOrModuleTypeIndex) → a ≡ map f c → b ≡ map f d → a ++ b ≡ map f (c ++ d)
@@ -28,7 +28,7 @@ module _ (f : EngineOrModuleTypeIndex → EngineOrModuleTypeIndex) (leaves : Lea
 
   -- ---- which they are
 
-  heap_refs-over : (h : WasmHeapType) → heap_refs (over_heap f h) ≡ map f (heap_refs h)
+  heap_refs-over : (h : WasmHeapType) → heap_refs (map_heap_refs f h) ≡ map f (heap_refs h)
   heap_refs-over (heap.ConcreteFunc i) = leaves.refs i
   heap_refs-over (heap.ConcreteArray i) = leaves.refs i
   heap_refs-over (heap.ConcreteStruct i) = leaves.refs i
@@ -36,49 +36,49 @@ module _ (f : EngineOrModuleTypeIndex → EngineOrModuleTypeIndex) (leaves : Lea
   heap_refs-over (heap.ConcreteCont i) = leaves.refs i
   heap_refs-over _ = refl
 
-  val_refs-over : (v : WasmValType) → val_refs (over_val f v) ≡ map f (val_refs v)
+  val_refs-over : (v : WasmValType) → val_refs (map_val_refs f v) ≡ map f (val_refs v)
   val_refs-over (val.Ref r) = heap_refs-over r.heap_type
   val_refs-over _ = refl
 
-  vals_refs-over : (vs : List WasmValType) → vals_refs (over_vals f vs) ≡ map f (vals_refs vs)
+  vals_refs-over : (vs : List WasmValType) → vals_refs (map_vals_refs f vs) ≡ map f (vals_refs vs)
   vals_refs-over [] = refl
   vals_refs-over (v ∷ vs) =
-      join-over (val_refs (over_val f v)) (vals_refs (over_vals f vs)) (val_refs v) (vals_refs vs) (val_refs-over v) (vals_refs-over vs)
+      join-over (val_refs (map_val_refs f v)) (vals_refs (map_vals_refs f vs)) (val_refs v) (vals_refs vs) (val_refs-over v) (vals_refs-over vs)
 
-  storage_refs-over : (s : WasmStorageType) → storage_refs (over_storage f s) ≡ map f (storage_refs s)
+  storage_refs-over : (s : WasmStorageType) → storage_refs (map_storage_refs f s) ≡ map f (storage_refs s)
   storage_refs-over (storage.Val v) = val_refs-over v
   storage_refs-over _ = refl
 
-  fields_refs-over : (ts : List WasmFieldType) → fields_refs (over_fields f ts) ≡ map f (fields_refs ts)
+  fields_refs-over : (ts : List WasmFieldType) → fields_refs (map_fields_refs f ts) ≡ map f (fields_refs ts)
   fields_refs-over [] = refl
   fields_refs-over (t ∷ ts) =
-      join-over (storage_refs (over_storage f t.element_type)) (fields_refs (over_fields f ts)) (storage_refs t.element_type) (fields_refs ts) (storage_refs-over t.element_type) (fields_refs-over ts)
+      join-over (storage_refs (map_storage_refs f t.element_type)) (fields_refs (map_fields_refs f ts)) (storage_refs t.element_type) (fields_refs ts) (storage_refs-over t.element_type) (fields_refs-over ts)
 
-  shape_refs-over : (s : WasmCompositeInnerType) → shape_refs (over_shape f s) ≡ map f (shape_refs s)
+  shape_refs-over : (s : WasmCompositeInnerType) → shape_refs (map_shape_refs f s) ≡ map f (shape_refs s)
   shape_refs-over (shape.Func t) =
-      join-over (vals_refs (over_vals f t.params)) (vals_refs (over_vals f t.results)) (vals_refs t.params) (vals_refs t.results) (vals_refs-over t.params) (vals_refs-over t.results)
+      join-over (vals_refs (map_vals_refs f t.params)) (vals_refs (map_vals_refs f t.results)) (vals_refs t.params) (vals_refs t.results) (vals_refs-over t.params) (vals_refs-over t.results)
   shape_refs-over (shape.Struct s) = fields_refs-over s.fields
   shape_refs-over (shape.Array a) = storage_refs-over a.0.element_type
   shape_refs-over (shape.Exn e) =
-      join-over (index_refs (f e.func_ty)) (fields_refs (over_fields f e.fields)) (index_refs e.func_ty) (fields_refs e.fields) (leaves.refs e.func_ty) (fields_refs-over e.fields)
+      join-over (index_refs (f e.func_ty)) (fields_refs (map_fields_refs f e.fields)) (index_refs e.func_ty) (fields_refs e.fields) (leaves.refs e.func_ty) (fields_refs-over e.fields)
   shape_refs-over (shape.Cont c) = leaves.refs c.0
 
   super_refs-over : (s : Option EngineOrModuleTypeIndex) → super_refs (option_map f s) ≡ map f (super_refs s)
   super_refs-over None = refl
   super_refs-over (Some i) = leaves.refs i
 
-  pub sub_refs-over : (t : WasmSubType) → sub_refs (over_sub f t) ≡ map f (sub_refs t)
+  pub sub_refs-over : (t : WasmSubType) → sub_refs (map_sub_refs f t) ≡ map f (sub_refs t)
   sub_refs-over t =
-      join-over (super_refs (option_map f t.supertype)) (shape_refs (over_shape f t.composite_type)) (super_refs t.supertype) (shape_refs t.composite_type) (super_refs-over t.supertype) (shape_refs-over t.composite_type)
+      join-over (super_refs (option_map f t.supertype)) (shape_refs (map_shape_refs f t.composite_type)) (super_refs t.supertype) (shape_refs t.composite_type) (super_refs-over t.supertype) (shape_refs-over t.composite_type)
 
-  pub group_refs-over : (ts : List WasmSubType) → group_refs (over_group f ts) ≡ map f (group_refs ts)
+  pub group_refs-over : (ts : List WasmSubType) → group_refs (map_group_refs f ts) ≡ map f (group_refs ts)
   group_refs-over [] = refl
   group_refs-over (t ∷ ts) =
-      join-over (sub_refs (over_sub f t)) (group_refs (over_group f ts)) (sub_refs t) (group_refs ts) (sub_refs-over t) (group_refs-over ts)
+      join-over (sub_refs (map_sub_refs f t)) (group_refs (map_group_refs f ts)) (sub_refs t) (group_refs ts) (sub_refs-over t) (group_refs-over ts)
 
   -- ---- the numbered group
 
-  number_heap-over : (n : ℕ) (h : WasmHeapType) → number_heap n (over_heap f h) ≡ number_heap n h
+  number_heap-over : (n : ℕ) (h : WasmHeapType) → number_heap n (map_heap_refs f h) ≡ number_heap n h
   number_heap-over n (heap.ConcreteFunc i) = ap heap.ConcreteFunc (leaves.numbers n i)
   number_heap-over n (heap.ConcreteArray i) = ap heap.ConcreteArray (leaves.numbers n i)
   number_heap-over n (heap.ConcreteStruct i) = ap heap.ConcreteStruct (leaves.numbers n i)
@@ -86,41 +86,41 @@ module _ (f : EngineOrModuleTypeIndex → EngineOrModuleTypeIndex) (leaves : Lea
   number_heap-over n (heap.ConcreteCont i) = ap heap.ConcreteCont (leaves.numbers n i)
   number_heap-over n _ = refl
 
-  number_val-over : (n : ℕ) (v : WasmValType) → number_val n (over_val f v) ≡ number_val n v
+  number_val-over : (n : ℕ) (v : WasmValType) → number_val n (map_val_refs f v) ≡ number_val n v
   number_val-over n (val.Ref r) = let same = number_heap-over n r.heap_type in λ i. val.Ref (record r { heap_type = same i })
   number_val-over n _ = refl
 
-  number_vals-over : (n : ℕ) (vs : List WasmValType) → number_vals n (over_vals f vs) ≡ number_vals n vs
+  number_vals-over : (n : ℕ) (vs : List WasmValType) → number_vals n (map_vals_refs f vs) ≡ number_vals n vs
   number_vals-over n [] = refl
   number_vals-over n (v ∷ vs) =
       let first = number_val-over n v in
-      let count = same_count (val_refs (over_val f v)) (val_refs v) (val_refs-over v) in
+      let count = same_count (val_refs (map_val_refs f v)) (val_refs v) (val_refs-over v) in
       let rest = number_vals-over (n + length (val_refs v)) vs in
-      let moved = ap (λ k. number_vals (n + k) (over_vals f vs)) count ∙ rest in
+      let moved = ap (λ k. number_vals (n + k) (map_vals_refs f vs)) count ∙ rest in
       λ i. first i ∷ moved i
 
-  number_storage-over : (n : ℕ) (s : WasmStorageType) → number_storage n (over_storage f s) ≡ number_storage n s
+  number_storage-over : (n : ℕ) (s : WasmStorageType) → number_storage n (map_storage_refs f s) ≡ number_storage n s
   number_storage-over n (storage.Val v) = ap storage.Val (number_val-over n v)
   number_storage-over n _ = refl
 
-  number_field-over : (n : ℕ) (t : WasmFieldType) → number_field n (over_field f t) ≡ number_field n t
+  number_field-over : (n : ℕ) (t : WasmFieldType) → number_field n (map_field_refs f t) ≡ number_field n t
   number_field-over n t = let same = number_storage-over n t.element_type in λ i. record t { element_type = same i }
 
-  number_fields-over : (n : ℕ) (ts : List WasmFieldType) → number_fields n (over_fields f ts) ≡ number_fields n ts
+  number_fields-over : (n : ℕ) (ts : List WasmFieldType) → number_fields n (map_fields_refs f ts) ≡ number_fields n ts
   number_fields-over n [] = refl
   number_fields-over n (t ∷ ts) =
       let first = number_field-over n t in
-      let count = same_count (storage_refs (over_storage f t.element_type)) (storage_refs t.element_type) (storage_refs-over t.element_type) in
+      let count = same_count (storage_refs (map_storage_refs f t.element_type)) (storage_refs t.element_type) (storage_refs-over t.element_type) in
       let rest = number_fields-over (n + length (storage_refs t.element_type)) ts in
-      let moved = ap (λ k. number_fields (n + k) (over_fields f ts)) count ∙ rest in
+      let moved = ap (λ k. number_fields (n + k) (map_fields_refs f ts)) count ∙ rest in
       λ i. first i ∷ moved i
 
-  number_shape-over : (n : ℕ) (s : WasmCompositeInnerType) → number_shape n (over_shape f s) ≡ number_shape n s
+  number_shape-over : (n : ℕ) (s : WasmCompositeInnerType) → number_shape n (map_shape_refs f s) ≡ number_shape n s
   number_shape-over n (shape.Func t) =
       let params = number_vals-over n t.params in
-      let count = same_count (vals_refs (over_vals f t.params)) (vals_refs t.params) (vals_refs-over t.params) in
+      let count = same_count (vals_refs (map_vals_refs f t.params)) (vals_refs t.params) (vals_refs-over t.params) in
       let rest = number_vals-over (n + length (vals_refs t.params)) t.results in
-      let results = ap (λ k. number_vals (n + k) (over_vals f t.results)) count ∙ rest in
+      let results = ap (λ k. number_vals (n + k) (map_vals_refs f t.results)) count ∙ rest in
       λ i. shape.Func (record { params = params i; results = results i })
   number_shape-over n (shape.Struct s) = let fields = number_fields-over n s.fields in λ i. shape.Struct (record { fields = fields i })
   number_shape-over n (shape.Array a) = let field = number_field-over n a.0 in λ i. shape.Array (record { 0 = field i })
@@ -128,7 +128,7 @@ module _ (f : EngineOrModuleTypeIndex → EngineOrModuleTypeIndex) (leaves : Lea
       let func = leaves.numbers n e.func_ty in
       let count = same_count (index_refs (f e.func_ty)) (index_refs e.func_ty) (leaves.refs e.func_ty) in
       let rest = number_fields-over (n + length (index_refs e.func_ty)) e.fields in
-      let fields = ap (λ k. number_fields (n + k) (over_fields f e.fields)) count ∙ rest in
+      let fields = ap (λ k. number_fields (n + k) (map_fields_refs f e.fields)) count ∙ rest in
       λ i. shape.Exn (record { func_ty = func i; fields = fields i })
   number_shape-over n (shape.Cont c) = let func = leaves.numbers n c.0 in λ i. shape.Cont (record { 0 = func i })
 
@@ -136,24 +136,24 @@ module _ (f : EngineOrModuleTypeIndex → EngineOrModuleTypeIndex) (leaves : Lea
   number_super-over n None = refl
   number_super-over n (Some i) = ap Some (leaves.numbers n i)
 
-  pub number_sub-over : (n : ℕ) (t : WasmSubType) → number_sub n (over_sub f t) ≡ number_sub n t
+  pub number_sub-over : (n : ℕ) (t : WasmSubType) → number_sub n (map_sub_refs f t) ≡ number_sub n t
   number_sub-over n t =
       let super = number_super-over n t.supertype in
       let count = same_count (super_refs (option_map f t.supertype)) (super_refs t.supertype) (super_refs-over t.supertype) in
       let rest = number_shape-over (n + length (super_refs t.supertype)) t.composite_type in
-      let shapes = ap (λ k. number_shape (n + k) (over_shape f t.composite_type)) count ∙ rest in
+      let shapes = ap (λ k. number_shape (n + k) (map_shape_refs f t.composite_type)) count ∙ rest in
       λ i. record t { supertype = super i; composite_type = shapes i }
 
-  number_group_from-over : (n : ℕ) (ts : List WasmSubType) → number_group_from n (over_group f ts) ≡ number_group_from n ts
+  number_group_from-over : (n : ℕ) (ts : List WasmSubType) → number_group_from n (map_group_refs f ts) ≡ number_group_from n ts
   number_group_from-over n [] = refl
   number_group_from-over n (t ∷ ts) =
       let first = number_sub-over n t in
-      let count = same_count (sub_refs (over_sub f t)) (sub_refs t) (sub_refs-over t) in
+      let count = same_count (sub_refs (map_sub_refs f t)) (sub_refs t) (sub_refs-over t) in
       let rest = number_group_from-over (n + length (sub_refs t)) ts in
-      let moved = ap (λ k. number_group_from (n + k) (over_group f ts)) count ∙ rest in
+      let moved = ap (λ k. number_group_from (n + k) (map_group_refs f ts)) count ∙ rest in
       λ i. first i ∷ moved i
 
-  pub number_group-over : (ts : List WasmSubType) → number_group (over_group f ts) ≡ number_group ts
+  pub number_group-over : (ts : List WasmSubType) → number_group (map_group_refs f ts) ≡ number_group ts
   number_group-over ts = number_group_from-over 0 ts
 
 -- ---- which functions are so

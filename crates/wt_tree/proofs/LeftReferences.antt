@@ -16,9 +16,9 @@ use Rattle.wt_env.specs.declared.types.WasmFieldType.{WasmFieldType}
 use Rattle.wt_env.specs.declared.types.WasmCompositeInnerType.{WasmCompositeInnerType}
 use Rattle.wt_env.specs.declared.types.WasmCompositeInnerType.TheVariants as shape
 use Rattle.wt_env.specs.declared.types.WasmSubType.{WasmSubType}
-use Rattle.wt_tree.specs.Among.{Among}
+use Rattle.wt_env.specs.Among.{Among}
 use Rattle.wt_tree.specs.References.{index_refs, heap_refs, val_refs, vals_refs, storage_refs, fields_refs, shape_refs, super_refs, sub_refs, group_refs}
-use Rattle.wt_tree.specs.Over.{over_heap, over_val, over_vals, over_storage, over_fields, over_shape, over_sub, over_group}
+use Rattle.wt_tree.specs.MapRefs.{map_heap_refs, map_val_refs, map_vals_refs, map_storage_refs, map_fields_refs, map_shape_refs, map_sub_refs, map_group_refs}
 use Rattle.wt_tree.specs.Canonical.{own_index}
 
 -- ---- which they are
@@ -41,7 +41,7 @@ module _ (f : EngineOrModuleTypeIndex → EngineOrModuleTypeIndex) (own : (k : �
   index_refs-left (index.Module i) = append_none (index_refs (f (index.Module i)))
   index_refs-left (index.RecGroup k) = ap index_refs (own k)
 
-  heap_refs-left : (h : WasmHeapType) → heap_refs (over_heap f h) ≡ flat_map (left f) (heap_refs h)
+  heap_refs-left : (h : WasmHeapType) → heap_refs (map_heap_refs f h) ≡ flat_map (left f) (heap_refs h)
   heap_refs-left (heap.ConcreteFunc i) = index_refs-left i
   heap_refs-left (heap.ConcreteArray i) = index_refs-left i
   heap_refs-left (heap.ConcreteStruct i) = index_refs-left i
@@ -49,45 +49,45 @@ module _ (f : EngineOrModuleTypeIndex → EngineOrModuleTypeIndex) (own : (k : �
   heap_refs-left (heap.ConcreteCont i) = index_refs-left i
   heap_refs-left _ = refl
 
-  val_refs-left : (v : WasmValType) → val_refs (over_val f v) ≡ flat_map (left f) (val_refs v)
+  val_refs-left : (v : WasmValType) → val_refs (map_val_refs f v) ≡ flat_map (left f) (val_refs v)
   val_refs-left (val.Ref r) = heap_refs-left r.heap_type
   val_refs-left _ = refl
 
-  vals_refs-left : (vs : List WasmValType) → vals_refs (over_vals f vs) ≡ flat_map (left f) (vals_refs vs)
+  vals_refs-left : (vs : List WasmValType) → vals_refs (map_vals_refs f vs) ≡ flat_map (left f) (vals_refs vs)
   vals_refs-left [] = refl
   vals_refs-left (v ∷ vs) =
-      join-left (val_refs (over_val f v)) (vals_refs (over_vals f vs)) (val_refs v) (vals_refs vs) (val_refs-left v) (vals_refs-left vs)
+      join-left (val_refs (map_val_refs f v)) (vals_refs (map_vals_refs f vs)) (val_refs v) (vals_refs vs) (val_refs-left v) (vals_refs-left vs)
 
-  storage_refs-left : (s : WasmStorageType) → storage_refs (over_storage f s) ≡ flat_map (left f) (storage_refs s)
+  storage_refs-left : (s : WasmStorageType) → storage_refs (map_storage_refs f s) ≡ flat_map (left f) (storage_refs s)
   storage_refs-left (storage.Val v) = val_refs-left v
   storage_refs-left _ = refl
 
-  fields_refs-left : (ts : List WasmFieldType) → fields_refs (over_fields f ts) ≡ flat_map (left f) (fields_refs ts)
+  fields_refs-left : (ts : List WasmFieldType) → fields_refs (map_fields_refs f ts) ≡ flat_map (left f) (fields_refs ts)
   fields_refs-left [] = refl
   fields_refs-left (t ∷ ts) =
-      join-left (storage_refs (over_storage f t.element_type)) (fields_refs (over_fields f ts)) (storage_refs t.element_type) (fields_refs ts) (storage_refs-left t.element_type) (fields_refs-left ts)
+      join-left (storage_refs (map_storage_refs f t.element_type)) (fields_refs (map_fields_refs f ts)) (storage_refs t.element_type) (fields_refs ts) (storage_refs-left t.element_type) (fields_refs-left ts)
 
-  shape_refs-left : (s : WasmCompositeInnerType) → shape_refs (over_shape f s) ≡ flat_map (left f) (shape_refs s)
+  shape_refs-left : (s : WasmCompositeInnerType) → shape_refs (map_shape_refs f s) ≡ flat_map (left f) (shape_refs s)
   shape_refs-left (shape.Func t) =
-      join-left (vals_refs (over_vals f t.params)) (vals_refs (over_vals f t.results)) (vals_refs t.params) (vals_refs t.results) (vals_refs-left t.params) (vals_refs-left t.results)
+      join-left (vals_refs (map_vals_refs f t.params)) (vals_refs (map_vals_refs f t.results)) (vals_refs t.params) (vals_refs t.results) (vals_refs-left t.params) (vals_refs-left t.results)
   shape_refs-left (shape.Struct s) = fields_refs-left s.fields
   shape_refs-left (shape.Array a) = storage_refs-left a.0.element_type
   shape_refs-left (shape.Exn e) =
-      join-left (index_refs (f e.func_ty)) (fields_refs (over_fields f e.fields)) (index_refs e.func_ty) (fields_refs e.fields) (index_refs-left e.func_ty) (fields_refs-left e.fields)
+      join-left (index_refs (f e.func_ty)) (fields_refs (map_fields_refs f e.fields)) (index_refs e.func_ty) (fields_refs e.fields) (index_refs-left e.func_ty) (fields_refs-left e.fields)
   shape_refs-left (shape.Cont c) = index_refs-left c.0
 
   super_refs-left : (s : Option EngineOrModuleTypeIndex) → super_refs (option_map f s) ≡ flat_map (left f) (super_refs s)
   super_refs-left None = refl
   super_refs-left (Some i) = index_refs-left i
 
-  sub_refs-left : (t : WasmSubType) → sub_refs (over_sub f t) ≡ flat_map (left f) (sub_refs t)
+  sub_refs-left : (t : WasmSubType) → sub_refs (map_sub_refs f t) ≡ flat_map (left f) (sub_refs t)
   sub_refs-left t =
-      join-left (super_refs (option_map f t.supertype)) (shape_refs (over_shape f t.composite_type)) (super_refs t.supertype) (shape_refs t.composite_type) (super_refs-left t.supertype) (shape_refs-left t.composite_type)
+      join-left (super_refs (option_map f t.supertype)) (shape_refs (map_shape_refs f t.composite_type)) (super_refs t.supertype) (shape_refs t.composite_type) (super_refs-left t.supertype) (shape_refs-left t.composite_type)
 
-  pub group_refs-left : (ts : List WasmSubType) → group_refs (over_group f ts) ≡ flat_map (λ i. index_refs (f i)) (group_refs ts)
+  pub group_refs-left : (ts : List WasmSubType) → group_refs (map_group_refs f ts) ≡ flat_map (λ i. index_refs (f i)) (group_refs ts)
   group_refs-left [] = refl
   group_refs-left (t ∷ ts) =
-      join-left (sub_refs (over_sub f t)) (group_refs (over_group f ts)) (sub_refs t) (group_refs ts) (sub_refs-left t) (group_refs-left ts)
+      join-left (sub_refs (map_sub_refs f t)) (group_refs (map_group_refs f ts)) (sub_refs t) (group_refs ts) (sub_refs-left t) (group_refs-left ts)
 
 -- ---- what leaves a module's group
 
@@ -122,7 +122,7 @@ left-earlier start j r at = by (nat_lt j.0 start) refl at
 
 -- where every reference is one to a module's type, what leaves the group that begins at start is before it
 pub own_refs-earlier : (start : ℕ) (ts : List WasmSubType) → ((i : EngineOrModuleTypeIndex) → Among i (group_refs ts) → (j : ModuleInternedTypeIndex) × (i ≡ index.Module j))
-    → (r : EngineOrModuleTypeIndex) → Among r (group_refs (over_group (own_index start) ts)) → (j : ModuleInternedTypeIndex) × (r ≡ index.Module j) × (j.0 < start)
+    → (r : EngineOrModuleTypeIndex) → Among r (group_refs (map_group_refs (own_index start) ts)) → (j : ModuleInternedTypeIndex) × (r ≡ index.Module j) × (j.0 < start)
 own_refs-earlier start ts module_only r at =
     let found = among_flat_map (λ i. index_refs (own_index start i)) (group_refs ts) r (subst (Among r) (group_refs-left (own_index start) (λ k. refl) ts) at) in
     let named = module_only found.0 found.1 in

@@ -14,7 +14,7 @@ use Rattle.wt_env.specs.declared.types.WasmCompositeInnerType.{WasmCompositeInne
 use Rattle.wt_env.specs.declared.types.WasmCompositeInnerType.TheVariants as shape
 use Rattle.wt_env.specs.declared.types.WasmSubType.{WasmSubType}
 use Rattle.wt_tree.specs.References.{index_refs, heap_refs, val_refs, vals_refs, storage_refs, fields_refs, shape_refs, super_refs, sub_refs, group_refs, number_index, number_heap, number_val, number_vals, number_storage, number_field, number_fields, number_shape, number_sub, number_group_from, number_group}
-use Rattle.wt_tree.specs.Over.{over_heap, over_val, over_vals, over_storage, over_field, over_fields, over_shape, over_sub, over_group, fill_index, fill_group}
+use Rattle.wt_tree.specs.MapRefs.{map_heap_refs, map_val_refs, map_vals_refs, map_storage_refs, map_field_refs, map_fields_refs, map_shape_refs, map_sub_refs, map_group_refs, fill_index, fill_group}
 
 -- from place n on, f fills in these references
 abbrev Fills : (EngineOrModuleTypeIndex → EngineOrModuleTypeIndex) → ℕ → List EngineOrModuleTypeIndex → Type 0
@@ -37,7 +37,7 @@ module _ (f : EngineOrModuleTypeIndex → EngineOrModuleTypeIndex) (own : (k : �
   refill_index n (index.Module i) fills = fills.0
   refill_index n (index.RecGroup k) fills = own k
 
-  refill_heap : (n : ℕ) (h : WasmHeapType) → Fills f n (heap_refs h) → over_heap f (number_heap n h) ≡ h
+  refill_heap : (n : ℕ) (h : WasmHeapType) → Fills f n (heap_refs h) → map_heap_refs f (number_heap n h) ≡ h
   refill_heap n (heap.ConcreteFunc i) fills = ap heap.ConcreteFunc (refill_index n i fills)
   refill_heap n (heap.ConcreteArray i) fills = ap heap.ConcreteArray (refill_index n i fills)
   refill_heap n (heap.ConcreteStruct i) fills = ap heap.ConcreteStruct (refill_index n i fills)
@@ -45,32 +45,32 @@ module _ (f : EngineOrModuleTypeIndex → EngineOrModuleTypeIndex) (own : (k : �
   refill_heap n (heap.ConcreteCont i) fills = ap heap.ConcreteCont (refill_index n i fills)
   refill_heap n _ fills = refl
 
-  refill_val : (n : ℕ) (v : WasmValType) → Fills f n (val_refs v) → over_val f (number_val n v) ≡ v
+  refill_val : (n : ℕ) (v : WasmValType) → Fills f n (val_refs v) → map_val_refs f (number_val n v) ≡ v
   refill_val n (val.Ref r) fills = let filled = refill_heap n r.heap_type fills in λ i. val.Ref (record r { heap_type = filled i })
   refill_val n _ fills = refl
 
-  refill_vals : (n : ℕ) (vs : List WasmValType) → Fills f n (vals_refs vs) → over_vals f (number_vals n vs) ≡ vs
+  refill_vals : (n : ℕ) (vs : List WasmValType) → Fills f n (vals_refs vs) → map_vals_refs f (number_vals n vs) ≡ vs
   refill_vals n [] fills = refl
   refill_vals n (v ∷ vs) fills =
       let first = refill_val n v (fills_first f n (val_refs v) (vals_refs vs) fills) in
       let rest = refill_vals (n + length (val_refs v)) vs (fills_second f n (val_refs v) (vals_refs vs) fills) in
       λ i. first i ∷ rest i
 
-  refill_storage : (n : ℕ) (s : WasmStorageType) → Fills f n (storage_refs s) → over_storage f (number_storage n s) ≡ s
+  refill_storage : (n : ℕ) (s : WasmStorageType) → Fills f n (storage_refs s) → map_storage_refs f (number_storage n s) ≡ s
   refill_storage n (storage.Val v) fills = ap storage.Val (refill_val n v fills)
   refill_storage n _ fills = refl
 
-  refill_field : (n : ℕ) (t : WasmFieldType) → Fills f n (storage_refs t.element_type) → over_field f (number_field n t) ≡ t
+  refill_field : (n : ℕ) (t : WasmFieldType) → Fills f n (storage_refs t.element_type) → map_field_refs f (number_field n t) ≡ t
   refill_field n t fills = let filled = refill_storage n t.element_type fills in λ i. record t { element_type = filled i }
 
-  refill_fields : (n : ℕ) (ts : List WasmFieldType) → Fills f n (fields_refs ts) → over_fields f (number_fields n ts) ≡ ts
+  refill_fields : (n : ℕ) (ts : List WasmFieldType) → Fills f n (fields_refs ts) → map_fields_refs f (number_fields n ts) ≡ ts
   refill_fields n [] fills = refl
   refill_fields n (t ∷ ts) fills =
       let first = refill_field n t (fills_first f n (storage_refs t.element_type) (fields_refs ts) fills) in
       let rest = refill_fields (n + length (storage_refs t.element_type)) ts (fills_second f n (storage_refs t.element_type) (fields_refs ts) fills) in
       λ i. first i ∷ rest i
 
-  refill_shape : (n : ℕ) (s : WasmCompositeInnerType) → Fills f n (shape_refs s) → over_shape f (number_shape n s) ≡ s
+  refill_shape : (n : ℕ) (s : WasmCompositeInnerType) → Fills f n (shape_refs s) → map_shape_refs f (number_shape n s) ≡ s
   refill_shape n (shape.Func t) fills =
       let params = refill_vals n t.params (fills_first f n (vals_refs t.params) (vals_refs t.results) fills) in
       let results = refill_vals (n + length (vals_refs t.params)) t.results (fills_second f n (vals_refs t.params) (vals_refs t.results) fills) in
@@ -87,13 +87,13 @@ module _ (f : EngineOrModuleTypeIndex → EngineOrModuleTypeIndex) (own : (k : �
   refill_super n None fills = refl
   refill_super n (Some i) fills = ap Some (refill_index n i fills)
 
-  refill_sub : (n : ℕ) (t : WasmSubType) → Fills f n (sub_refs t) → over_sub f (number_sub n t) ≡ t
+  refill_sub : (n : ℕ) (t : WasmSubType) → Fills f n (sub_refs t) → map_sub_refs f (number_sub n t) ≡ t
   refill_sub n t fills =
       let super = refill_super n t.supertype (fills_first f n (super_refs t.supertype) (shape_refs t.composite_type) fills) in
       let shapes = refill_shape (n + length (super_refs t.supertype)) t.composite_type (fills_second f n (super_refs t.supertype) (shape_refs t.composite_type) fills) in
       λ i. record t { supertype = super i; composite_type = shapes i }
 
-  refill_from : (n : ℕ) (ts : List WasmSubType) → Fills f n (group_refs ts) → over_group f (number_group_from n ts) ≡ ts
+  refill_from : (n : ℕ) (ts : List WasmSubType) → Fills f n (group_refs ts) → map_group_refs f (number_group_from n ts) ≡ ts
   refill_from n [] fills = refl
   refill_from n (t ∷ ts) fills =
       let first = refill_sub n t (fills_first f n (sub_refs t) (group_refs ts) fills) in

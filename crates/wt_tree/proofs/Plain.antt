@@ -12,7 +12,7 @@ use Rattle.wt_env.specs.declared.types.WasmCompositeInnerType.TheVariants as sha
 use Rattle.wt_env.specs.declared.types.WasmSubType.{WasmSubType}
 use Rattle.wt_tree.specs.NumberFunction.{is_number, is_over_numbers, is_number_function}
 use Rattle.wt_tree.specs.References.{val_refs, vals_refs, shape_refs, super_refs, sub_refs, group_refs, number_val, number_vals, number_index, number_shape, number_sub, number_group}
-use Rattle.wt_tree.specs.Over.{over_val, over_vals, over_shape, over_sub, over_group}
+use Rattle.wt_tree.specs.MapRefs.{map_val_refs, map_vals_refs, map_shape_refs, map_sub_refs, map_group_refs}
 
 val_refs-number : (v : WasmValType) → is_number v ≡ true → val_refs v ≡ []
 val_refs-number val.I32 h = refl
@@ -101,40 +101,40 @@ number_group-plain t h = ap (λ u. u ∷ []) (number_sub-plain 0 t h)
 -- ---- no change of references changes it
 
 module _ (f : EngineOrModuleTypeIndex → EngineOrModuleTypeIndex) where
-  over_val-number : (v : WasmValType) → is_number v ≡ true → over_val f v ≡ v
-  over_val-number val.I32 h = refl
-  over_val-number val.I64 h = refl
-  over_val-number val.F32 h = refl
-  over_val-number val.F64 h = refl
-  over_val-number val.V128 h = refl
-  over_val-number (val.Ref r) h = absurd (false≢true h)
+  map_val_refs-number : (v : WasmValType) → is_number v ≡ true → map_val_refs f v ≡ v
+  map_val_refs-number val.I32 h = refl
+  map_val_refs-number val.I64 h = refl
+  map_val_refs-number val.F32 h = refl
+  map_val_refs-number val.F64 h = refl
+  map_val_refs-number val.V128 h = refl
+  map_val_refs-number (val.Ref r) h = absurd (false≢true h)
 
-  over_vals-numbers : (vs : List WasmValType) → list_all is_number vs ≡ true → over_vals f vs ≡ vs
-  over_vals-numbers [] h = refl
-  over_vals-numbers (v ∷ vs) h =
-      let first = over_val-number v (first_so (is_number v) (list_all is_number vs) h) in
-      let rest = over_vals-numbers vs (second_so (is_number v) (list_all is_number vs) h) in
+  map_vals_refs-numbers : (vs : List WasmValType) → list_all is_number vs ≡ true → map_vals_refs f vs ≡ vs
+  map_vals_refs-numbers [] h = refl
+  map_vals_refs-numbers (v ∷ vs) h =
+      let first = map_val_refs-number v (first_so (is_number v) (list_all is_number vs) h) in
+      let rest = map_vals_refs-numbers vs (second_so (is_number v) (list_all is_number vs) h) in
       λ i. first i ∷ rest i
 
-  over_shape-numbers : (s : WasmCompositeInnerType) → is_over_numbers s ≡ true → over_shape f s ≡ s
-  over_shape-numbers (shape.Func t) h =
-      let params = over_vals-numbers t.params (first_so (list_all is_number t.params) (list_all is_number t.results) h) in
-      let results = over_vals-numbers t.results (second_so (list_all is_number t.params) (list_all is_number t.results) h) in
+  map_shape_refs-numbers : (s : WasmCompositeInnerType) → is_over_numbers s ≡ true → map_shape_refs f s ≡ s
+  map_shape_refs-numbers (shape.Func t) h =
+      let params = map_vals_refs-numbers t.params (first_so (list_all is_number t.params) (list_all is_number t.results) h) in
+      let results = map_vals_refs-numbers t.results (second_so (list_all is_number t.params) (list_all is_number t.results) h) in
       λ i. shape.Func (record { params = params i; results = results i })
-  over_shape-numbers (shape.Struct s) h = absurd (false≢true h)
-  over_shape-numbers (shape.Array a) h = absurd (false≢true h)
-  over_shape-numbers (shape.Exn e) h = absurd (false≢true h)
-  over_shape-numbers (shape.Cont c) h = absurd (false≢true h)
+  map_shape_refs-numbers (shape.Struct s) h = absurd (false≢true h)
+  map_shape_refs-numbers (shape.Array a) h = absurd (false≢true h)
+  map_shape_refs-numbers (shape.Exn e) h = absurd (false≢true h)
+  map_shape_refs-numbers (shape.Cont c) h = absurd (false≢true h)
 
   over_super-none : (s : Option EngineOrModuleTypeIndex) → is_none s ≡ true → option_map f s ≡ s
   over_super-none None h = refl
   over_super-none (Some i) h = absurd (false≢true h)
 
-  pub over_sub-plain : (t : WasmSubType) → is_number_function t ≡ true → over_sub f t ≡ t
-  over_sub-plain t h =
+  pub map_sub_refs-plain : (t : WasmSubType) → is_number_function t ≡ true → map_sub_refs f t ≡ t
+  map_sub_refs-plain t h =
       let super = over_super-none t.supertype (no_super t h) in
-      let rest = over_shape-numbers t.composite_type (over_numbers t h) in
+      let rest = map_shape_refs-numbers t.composite_type (over_numbers t h) in
       λ i. record t { supertype = super i; composite_type = rest i }
 
-  pub over_group-plain : (t : WasmSubType) → is_number_function t ≡ true → over_group f (t ∷ []) ≡ t ∷ []
-  over_group-plain t h = ap (λ u. u ∷ []) (over_sub-plain t h)
+  pub map_group_refs-plain : (t : WasmSubType) → is_number_function t ≡ true → map_group_refs f (t ∷ []) ≡ t ∷ []
+  map_group_refs-plain t h = ap (λ u. u ∷ []) (map_sub_refs-plain t h)

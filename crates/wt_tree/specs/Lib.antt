@@ -1,7 +1,6 @@
-pub mod Among
 pub mod Canonical
 pub mod ModuleTree
 pub mod NumberFunction
-pub mod Over
+pub mod MapRefs
 pub mod References
 pub mod Tree

@@ -6,7 +6,7 @@ use Rattle.wt_env.specs.declared.types.EngineOrModuleTypeIndex.TheVariants as in
 use Rattle.wt_env.specs.declared.types.WasmSubType.{WasmSubType}
 use Rattle.wt_env.specs.declared.types.WasmRecGroup.{WasmRecGroup}
 use Rattle.wt_tree.specs.Canonical.{own_index}
-use Rattle.wt_tree.specs.Over.{over_group}
+use Rattle.wt_tree.specs.MapRefs.{map_group_refs}
 use Rattle.wt_tree.specs.References.{group_refs, number_group}
 use Rattle.wt_tree.specs.Tree.{Tree, Outer, ClosedTree, group, none, outer}
 
@@ -26,7 +26,7 @@ known_outer known (i ∷ rest) = outer (known_tree known i).tree (known_tree kno
 -- the tree of a group whose types come behind those that are known
 abbrev pub group_tree : List ClosedTree → List WasmSubType → Tree
 group_tree known types =
-    let own = over_group (own_index (length known)) types in
+    let own = map_group_refs (own_index (length known)) types in
     group (number_group own) (known_outer known (group_refs own))
 
 -- the so many types of a group from a place on

@@ -2,6 +2,6 @@
 //! the closed trees of its types. The definitions stand in `specs/`; the code never builds a tree.
 #![tactic(auto)]
 
+pub mod map_refs;
 pub mod number_function;
-pub mod over;
 pub mod refs;

@@ -1,9 +1,7 @@
 //! Rows of modules: what their registration answers, and what a release leaves.
 
 use super::*;
-use crate::refusal::{Place, Rule};
 use crate::registered_type::RegisteredType;
-use crate::validity::{are_countable, are_module_types};
 use std::process::Abort;
 use std::test::Fail;
 use wt_env::limits::{EngineLimits, Limit};
@@ -11,6 +9,8 @@ use wt_env::types::{
     EngineOrModuleTypeIndex, ModuleInternedTypeIndex, WasmCompositeInnerType, WasmFieldType,
     WasmFuncType, WasmHeapType, WasmRefType, WasmStorageType, WasmStructType, WasmValType,
 };
+use wt_rules::place::{Place, Rule};
+use wt_rules::rules::{are_countable, are_module_types};
 
 /// The final struct of one field, a reference to a struct of the module.
 fn structure(alloc: Global, mutable: bool, index: u32) -> Result<WasmSubType, OutOfMemory> {

@@ -1,7 +1,7 @@
 use Rattle.std.proofs.Common.{◌≡◌, ◌++◌, ◌∙◌, ℕ, List, codes, string_bytes, refl, ap, append_assoc}
 use Rattle.std.specs.Fmt.{decimal}
-use Rattle.wt_registry.specs.declared.refusal.Place.TheVariants.{Member}
-use Rattle.wt_registry.specs.declared.refusal.Rule.{Rule}
+use Rattle.wt_rules.specs.declared.place.Place.TheVariants.{Member}
+use Rattle.wt_rules.specs.declared.place.Rule.{Rule}
 use Rattle.wt_program.specs.Text.{rule_word, invalid_module_text}
 use Rattle.wt_program.proofs.text.push_member.Goals as goal
 

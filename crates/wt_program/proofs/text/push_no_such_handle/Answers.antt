@@ -1,7 +1,7 @@
 use Rattle.std.proofs.Common.{◌≡◌, ◌++◌, ◌∙◌, ℕ, List, codes, string_bytes, refl, ap, append_assoc}
 use Rattle.std.specs.Fmt.{decimal}
 use Rattle.wt_program.specs.Text.{kind_word, no_such_handle_text}
-use Rattle.wt_session.specs.declared.reply.HandleKind.{HandleKind}
+use Rattle.wt_model.specs.declared.handle_kind.HandleKind.{HandleKind}
 use Rattle.wt_program.proofs.text.push_no_such_handle.Goals as goal
 
 -- the pieces as `write!` joins them

@@ -1,11 +1,12 @@
 -- one more hold is one less that is still to come
 use Rattle.std.proofs.Common.{◌+◌, sym, ap, subst, ◌∙◌, arith, get_or, drop}
 use Rattle.std.proofs.lemmas.List.{at_drop_more}
-use Rattle.wt_registry.specs.Registry.{Among, held_at}
-use Rattle.wt_registry.specs.Counts.{standings_of}
-use Rattle.wt_registry.specs.Plan.{times, hold_each}
-use Rattle.wt_registry.proofs.Counted.{places_stand, stand_places}
-use Rattle.wt_registry.proofs.HeldEach.{room-held, places-held}
+use Rattle.wt_env.specs.Among.{Among}
+use Rattle.wt_model.specs.Holds.{held_at}
+use Rattle.wt_holds.specs.Counts.{standings_of}
+use Rattle.wt_model.specs.Holds.{times, hold_each}
+use Rattle.wt_holds.proofs.Counted.{places_stand, stand_places}
+use Rattle.wt_model.proofs.holds.HeldEach.{room-held, places-held}
 use Rattle.wt_registry.proofs.enter.hold_each.Goals as goal
 
 pub loop-number-preserved : goal.loop-number-preserved

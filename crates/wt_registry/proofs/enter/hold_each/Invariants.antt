@@ -1,9 +1,9 @@
 -- those from here on give what all of them do, and there is room for them
 use Rattle.std.proofs.Common.{◌≡◌, ℕ, ◌+◌, ◌^◌, ◌<◌, drop}
-use Rattle.wt_registry.specs.Registry.{held_at}
-use Rattle.wt_registry.specs.Counts.{standings_of}
-use Rattle.wt_registry.specs.Plan.{times, hold_each}
-use Rattle.wt_registry.proofs.Counted.{HavePlaces}
+use Rattle.wt_model.specs.Holds.{held_at}
+use Rattle.wt_holds.specs.Counts.{standings_of}
+use Rattle.wt_model.specs.Holds.{times, hold_each}
+use Rattle.wt_holds.proofs.Counted.{HavePlaces}
 use Rattle.wt_registry.proofs.enter.hold_each.Given as goal
 
 abbrev pub invariant-loop-number : goal.invariant-loop-number

@@ -1,8 +1,8 @@
 -- a count has a place for the party, and stays within its type
-use Rattle.std.proofs.Common.{◌+◌, ◌≤◌, ◌^◌, sym, ap, subst, arith}
-use Rattle.wt_registry.specs.Registry.{held_at}
-use Rattle.wt_registry.specs.Counts.{standings_of}
-use Rattle.wt_registry.proofs.Counted.{HavePlaces, has_place, held_at-bounded}
+use Rattle.std.proofs.Common.{◌≤◌, ◌^◌, sym, ap, subst, arith}
+use Rattle.wt_model.specs.Holds.{held_at}
+use Rattle.wt_holds.specs.Counts.{standings_of}
+use Rattle.wt_holds.proofs.Counted.{HavePlaces, has_place, held_at-bounded}
 use Rattle.wt_registry.proofs.enter.hold_one.Goals as goal
 
 pub held_by-wanted-requires : goal.held_by-wanted-requires

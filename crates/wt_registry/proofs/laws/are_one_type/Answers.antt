@@ -1,7 +1,7 @@
 -- equal holds have one index, and one index has one closed tree
 use Rattle.std.proofs.Common.{ap}
-use Rattle.wt_registry.specs.Registry.{closed_tree}
-use Rattle.wt_registry.proofs.OneTree.{one_type, index_equal, holds_equal}
+use Rattle.wt_model.specs.Indices.{closed_tree}
+use Rattle.wt_model.proofs.trees.OneTree.{one_type, index_equal, holds_equal}
 use Rattle.wt_registry.proofs.laws.are_one_type.Goals as goal
 
 pub returns-clause-trees : goal.returns-clause-trees

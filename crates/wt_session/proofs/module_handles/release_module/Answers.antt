@@ -2,19 +2,19 @@
 use Rattle.std.proofs.Common.{◌≡◌, ℕ, List, refl, sym, ap, subst, ◌∙◌, slice_set}
 use Rattle.wt_session.specs.declared.handle.Handle.{Handle}
 use Rattle.wt_session.specs.declared.handle.Handle.TheVariants as handle
-use Rattle.wt_session.specs.declared.reply.HandleKind.TheVariants as kind
+use Rattle.wt_model.specs.declared.handle_kind.HandleKind.TheVariants as kind
 use Rattle.wt_session.specs.declared.reply.Refusal.TheVariants as refusal
 use Rattle.wt_session.specs.declared.reply.Reply.TheVariants as reply
 use Rattle.wt_session.specs.Run.{module_released}
 use Rattle.wt_session.specs.Session.{Keeps}
-use Rattle.wt_session.proofs.HandlesKept.{module-held, keeps-released, keeps-same}
+use Rattle.wt_session.proofs.HandlesKept.{module-owner, module-held, keeps-released, keeps-same}
 use Rattle.wt_session.proofs.Places.{set-twice, set-own, no-module}
 use Rattle.wt_session.proofs.Times.{got-among}
 use Rattle.wt_session.proofs.module_handles.release_module.Goals as goal
 
 pub release-requires-clause-owner : goal.release-requires-clause-owner
 release-requires-clause-owner c =
-    sym (c.requires.handles.modules c.in-Module.types (got-among c.args.row.now.items c.args.handle (handle.Module c.in-Module.types) c.in-Module.ensures.taken)).1
+    sym (module-owner c.args.registry.now c.args.party.now c.args.row.now.items c.args.handle c.in-Module.types c.requires.handles c.in-Module.ensures.taken)
 
 pub release-requires-clause-held : goal.release-requires-clause-held
 release-requires-clause-held c =
@@ -24,7 +24,7 @@ release-requires-clause-held c =
 pub returns-in-Module-clause-keeps : goal.returns-in-Module-clause-keeps
 returns-in-Module-clause-keeps c =
     subst (Keeps c.args.registry.now c.release.new.self c.args.party.now) (sym c.take.ensures.row)
-    (keeps-released c.args.registry.now c.release.new.self c.args.party.now c.args.row.now.items c.args.handle c.in-Module.types c.requires.handles c.in-Module.ensures.taken c.release.ensures.releases c.release.ensures.sound)
+    (keeps-released c.args.registry.now c.release.new.self c.args.party.now c.args.row.now.items c.args.handle c.in-Module.types c.requires.handles c.in-Module.ensures.taken c.release.ensures.changes c.release.ensures.sound)
 
 pub returns-in_default : goal.returns-in_default
 returns-in_default c =

@@ -1,6 +1,6 @@
 -- one more group's types
-use Rattle.std.proofs.Common.{◌≡◌, ℕ, suc, ◌+◌, ap, sym, ◌∙◌, arith, take}
-use Rattle.wt_registry.specs.Validity.{total_members}
+use Rattle.std.proofs.Common.{◌≡◌, ℕ, suc, ◌+◌, ap, arith, take}
+use Rattle.wt_registry.specs.Rules.{total_members}
 use Rattle.wt_session.proofs.Counted.{total-turn, total-within}
 use Rattle.wt_session.proofs.module_handles.type_count.Goals as goal
 

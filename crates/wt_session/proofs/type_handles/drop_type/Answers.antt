@@ -2,20 +2,19 @@
 use Rattle.std.proofs.Common.{◌≡◌, ℕ, List, refl, sym, ap, subst, ◌∙◌, slice_set}
 use Rattle.wt_session.specs.declared.handle.Handle.{Handle}
 use Rattle.wt_session.specs.declared.handle.Handle.TheVariants as handle
-use Rattle.wt_session.specs.declared.reply.HandleKind.TheVariants as kind
+use Rattle.wt_model.specs.declared.handle_kind.HandleKind.TheVariants as kind
 use Rattle.wt_session.specs.declared.reply.Refusal.TheVariants as refusal
 use Rattle.wt_session.specs.declared.reply.Reply.TheVariants as reply
 use Rattle.wt_session.specs.World.{type_in}
 use Rattle.wt_session.specs.Run.{hold_ended, type_dropped}
 use Rattle.wt_session.specs.Session.{Keeps}
-use Rattle.wt_session.proofs.HandlesKept.{got-held, keeps-less, keeps-same}
+use Rattle.wt_session.proofs.HandlesKept.{type-owner, got-held, keeps-less, keeps-same}
 use Rattle.wt_session.proofs.Places.{set-twice, set-own, no-type}
-use Rattle.wt_session.proofs.Times.{got-among}
 use Rattle.wt_session.proofs.type_handles.drop_type.Goals as goal
 
 pub decref-requires-clause-owner : goal.decref-requires-clause-owner
 decref-requires-clause-owner c =
-    sym (c.requires.handles.owner c.in-Type.hold (got-among c.args.row.now.items c.args.handle (handle.Type c.in-Type.hold) c.in-Type.ensures.taken))
+    sym (type-owner c.args.registry.now c.args.party.now c.args.row.now.items c.args.handle c.in-Type.hold c.requires.handles c.in-Type.ensures.taken)
 
 pub decref-requires-clause-held : goal.decref-requires-clause-held
 decref-requires-clause-held c =
@@ -38,13 +37,13 @@ returns-in-Some-clause-keeps c =
     let debt = handle.Owed c.in-Some.debt in
     let changed : c.put.new.row.items ≡ slice_set row place debt = c.put.ensures ∙ ap (λ (r : List Handle). slice_set r place debt) c.take.ensures.row ∙ set-twice row place handle.Ended debt in
     subst (Keeps c.args.registry.now c.decref.new.registry c.args.party.now) (sym changed)
-    (keeps-less c.args.registry.now c.decref.new.registry c.args.party.now row place c.in-Type.hold debt c.requires.handles c.in-Type.ensures.taken tt c.in-Some.ensures.loses c.in-Some.ensures.sound)
+    (keeps-less c.args.registry.now c.decref.new.registry c.args.party.now row place c.in-Type.hold debt c.requires.handles c.in-Type.ensures.taken refl tt c.in-Some.ensures.changes c.in-Some.ensures.sound)
 
 pub returns-in-None-clause-keeps : goal.returns-in-None-clause-keeps
 returns-in-None-clause-keeps c =
     let row = c.args.row.now.items in
     subst (Keeps c.args.registry.now c.decref.new.registry c.args.party.now) (sym c.take.ensures.row)
-    (keeps-less c.args.registry.now c.decref.new.registry c.args.party.now row c.args.handle c.in-Type.hold handle.Ended c.requires.handles c.in-Type.ensures.taken tt c.in-None.ensures.loses c.in-None.ensures.sound)
+    (keeps-less c.args.registry.now c.decref.new.registry c.args.party.now row c.args.handle c.in-Type.hold handle.Ended c.requires.handles c.in-Type.ensures.taken refl tt c.in-None.ensures.changes c.in-None.ensures.sound)
 
 pub returns-in_default : goal.returns-in_default
 returns-in_default c =

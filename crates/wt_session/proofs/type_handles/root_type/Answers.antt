@@ -1,8 +1,10 @@
 -- a hold that was found is a handle's
 use Rattle.std.proofs.Common.{◌≡◌, ℕ, List, [], ◌∷◌, ◌++◌, Option, Some, None, Result, Ok, Err, sym, ap, subst, ◌∙◌}
 use Rattle.wt_env.specs.declared.types.VMSharedTypeIndex.{VMSharedTypeIndex}
-use Rattle.wt_registry.specs.declared.refusal.Full.{Full}
-use Rattle.wt_registry.specs.Registry.{Registry, Hold, locate, hold as held, root, rooted, rooted_after}
+use Rattle.wt_model.specs.declared.refusal.Full.{Full}
+use Rattle.wt_registry.specs.Registered.{Registry}
+use Rattle.wt_registry.specs.Holds.{Hold, hold as held, root, rooted, rooted_after}
+use Rattle.wt_registry.specs.Indices.{locate}
 use Rattle.wt_session.specs.declared.handle.Handle.{Handle}
 use Rattle.wt_session.specs.declared.handle.Handle.TheVariants as handle
 use Rattle.wt_session.specs.Session.{Keeps}
@@ -15,7 +17,7 @@ returns-in-Ok-Some-clause-keeps c =
     let pushed = c.push_type.ensures.row ∙ ap (λ (row : List Handle). row ++ handle.Type hold ∷ []) c.in_ok-reserve.ensures.items in
     subst (Keeps c.args.registry.now c.try_root.new.registry c.args.party.now) (sym pushed)
     (keeps-more c.args.registry.now c.try_root.new.registry c.args.party.now c.args.row.now.items hold c.requires.handles
-    (c.in-Ok-Some.ensures.grows hold c.in-Ok-Some.field-0-is) (c.in-Ok-Some.ensures.held hold c.in-Ok-Some.field-0-is) (c.in-Ok-Some.ensures.owner hold c.in-Ok-Some.field-0-is) c.in-Ok-Some.ensures.sound)
+    (c.in-Ok-Some.ensures.changes hold c.in-Ok-Some.field-0-is) (c.in-Ok-Some.ensures.held hold c.in-Ok-Some.field-0-is) (c.in-Ok-Some.ensures.owner hold c.in-Ok-Some.field-0-is) c.in-Ok-Some.ensures.sound)
 
 abbrev found_of : Result (Option Hold × Registry) Full → Option Hold
 found_of (Ok found) = found.0

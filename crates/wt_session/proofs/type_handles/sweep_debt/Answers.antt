@@ -2,7 +2,7 @@
 use Rattle.std.proofs.Common.{◌≡◌, ℕ, List, refl, sym, ap, subst, ◌∙◌, slice_set}
 use Rattle.wt_session.specs.declared.handle.Handle.{Handle}
 use Rattle.wt_session.specs.declared.handle.Handle.TheVariants as handle
-use Rattle.wt_session.specs.declared.reply.HandleKind.TheVariants as kind
+use Rattle.wt_model.specs.declared.handle_kind.HandleKind.TheVariants as kind
 use Rattle.wt_session.specs.declared.reply.Refusal.TheVariants as refusal
 use Rattle.wt_session.specs.declared.reply.Reply.TheVariants as reply
 use Rattle.wt_session.specs.Run.{debt_swept}
@@ -14,7 +14,7 @@ use Rattle.wt_session.proofs.type_handles.sweep_debt.Goals as goal
 pub returns-in-Owed-clause-keeps : goal.returns-in-Owed-clause-keeps
 returns-in-Owed-clause-keeps c =
     subst (Keeps c.args.registry.now c.sweep.new.self c.args.party.now) (sym c.take.ensures.row)
-    (keeps-swept c.args.registry.now c.sweep.new.self c.args.party.now c.args.row.now.items c.args.handle c.in-Owed.debt c.requires c.in-Owed.ensures.taken c.sweep.ensures.sweeps c.sweep.ensures.sound)
+    (keeps-swept c.args.registry.now c.sweep.new.self c.args.party.now c.args.row.now.items c.args.handle c.in-Owed.debt c.requires c.in-Owed.ensures.taken c.sweep.ensures.changes c.sweep.ensures.sound)
 
 pub returns-in_default : goal.returns-in_default
 returns-in_default c =

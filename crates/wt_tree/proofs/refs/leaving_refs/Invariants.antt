@@ -1,5 +1,5 @@
 -- the references so far are those of what comes before
-use Rattle.std.proofs.Common.{◌≡◌, ◌++◌, take}
+use Rattle.std.proofs.Common.{◌≡◌, take}
 use Rattle.wt_tree.specs.References.{group_refs}
 use Rattle.wt_tree.proofs.refs.leaving_refs.Given as goal
 

@@ -1,10 +1,10 @@
 -- the new hold is one of a registered group
-use Rattle.std.proofs.Common.{◌≡◌, ℕ, ap, sym, subst, ◌∙◌, arith}
+use Rattle.std.proofs.Common.{◌≡◌, ℕ, [], ◌∷◌, ap, sym, subst, ◌∙◌, arith}
 use Rattle.wt_env.specs.Limits.{EngineParts}
-use Rattle.wt_registry.specs.Registry.{Hold, IsHeld, hold}
-use Rattle.wt_registry.specs.Sound.{Grows}
-use Rattle.wt_registry.proofs.Grows.{hold-grows}
-use Rattle.wt_registry.proofs.HeldMore.{standing_numbered, held-more}
+use Rattle.wt_model.specs.Holds.{Hold, IsHeld, hold}
+use Rattle.wt_model.specs.Changes.{HoldChanges}
+use Rattle.wt_model.proofs.holds.HoldChanges.{hold-changes}
+use Rattle.wt_model.proofs.holds.HeldMore.{standing_numbered, held-more}
 use Rattle.wt_registry.proofs.registered_type.RegisteredType.try_root.Goals as goal
 
 pub returns-in-Ok-clause-held : goal.returns-in-Ok-clause-held
@@ -19,12 +19,12 @@ returns-in-Ok-clause-held c = λ found is.
     (standing_numbered registry c.args.index c.in-Some.number c.assure.ensures (sym c.in-Some.ensures)) (sym c.in-Some.ensures)
     (ap (λ (party : ℕ). hold registry party made.number) (sym owner) ∙ c.in-Ok.ensures.ok))
 
-pub returns-in-Ok-clause-grows : goal.returns-in-Ok-clause-grows
-returns-in-Ok-clause-grows c = λ found is.
+pub returns-in-Ok-clause-changes : goal.returns-in-Ok-clause-changes
+returns-in-Ok-clause-changes c = λ found is.
     let registry = c.args.registry.now in
     let made : Hold = record { engine = c.number-engine.result; index = c.args.index; number = c.in-Some.number; party = c.number-in-Ok.result } in
     let same : made ≡ found = cc in
-    subst (Grows registry c.hold.new.self c.args.party.now) (ap (λ (held : Hold). held.number) same)
-    (hold-grows registry c.hold.new.self c.args.party.now c.in-Some.number c.assure.ensures c.requires
+    subst (λ (number : ℕ). HoldChanges registry c.hold.new.self c.args.party.now (number ∷ [])) (ap (λ (held : Hold). held.number) same)
+    (hold-changes registry c.hold.new.self c.args.party.now c.in-Some.number c.assure.ensures c.requires
     (standing_numbered registry c.args.index c.in-Some.number c.assure.ensures (sym c.in-Some.ensures))
     (ap (λ (party : ℕ). hold registry party c.in-Some.number) (sym c.number.ensures) ∙ c.in-Ok.ensures.ok))

@@ -1,6 +1,6 @@
 -- what is kept is sound
 use Rattle.std.proofs.Common.{subst}
-use Rattle.wt_registry.specs.Sound.{IsSound}
+use Rattle.wt_model.specs.Sound.{IsSound}
 use Rattle.wt_registry.proofs.Soundness.{sound}
 use Rattle.wt_registry.proofs.registry.TypeRegistry.assure.Goals as goal
 

@@ -1,9 +1,9 @@
 -- one more hold keeps what is kept
 use Rattle.std.proofs.Common.{◌<◌, sym, subst}
-use Rattle.wt_registry.specs.Entries.{made_by}
-use Rattle.wt_registry.specs.Registry.{Registry}
-use Rattle.wt_registry.proofs.AddedKeys.{names_older}
-use Rattle.wt_registry.proofs.HoldKept.{hold-keeps}
+use Rattle.wt_keys.specs.Entries.{made_by}
+use Rattle.wt_model.specs.Registered.{Registry}
+use Rattle.wt_keys.proofs.AddedKeys.{names_older}
+use Rattle.wt_holds.proofs.HoldKept.{hold-keeps}
 use Rattle.wt_registry.proofs.Soundness.{sound}
 use Rattle.wt_registry.proofs.registry.TypeRegistry.hold.Goals as goal
 
@@ -16,9 +16,10 @@ invariant_of-self c =
       shown = kept.shown;
       within = kept.within;
       marks = kept.marks;
-      stand_in =
+      below = kept.below;
+      holds =
           hold-keeps c.hold_one.result c.self.inside.engine groups.given.numbers (made_by groups.entries.items) groups.counts.items c.hold_one.new.counts.items c.args.party c.args.number
-          kept.keys.rising (names_older groups.entries.items groups.given.numbers kept.keys) kept.stand_in
+          kept.keys.rising (names_older groups.entries.items groups.given.numbers kept.keys) kept.holds
           (subst (λ (registry : Registry). c.args.party < registry.engine.limits.parties) (sym c.self.view_is) c.requires)
           c.hold_one.ensures.allowed c.hold_one.ensures.err;
     }

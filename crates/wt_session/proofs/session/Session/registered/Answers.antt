@@ -7,4 +7,4 @@ use Rattle.wt_session.proofs.session.Session.registered.Goals as goal
 
 pub returns-clause-reached : goal.returns-clause-reached
 returns-clause-reached c =
-    subst HasExactlyReached c.self.view_is (reached c.self.inside.registry (rows_of c.self.inside.rows.items) c.self.invariant)
+    subst HasExactlyReached c.self.view_is (reached c.self.inside.registry c.self.inside.counts (rows_of c.self.inside.rows.items) c.self.invariant)

@@ -1,0 +1,4 @@
+mod ModuleTypes
+mod OneIndex
+mod StillHeld
+mod NothingHeld

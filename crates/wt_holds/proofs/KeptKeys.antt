@@ -1,0 +1,89 @@
+-- What is true of the keys of all registered groups stays true of those that are kept, where what they name is
+-- kept.
+use Rattle.std.proofs.Common.{◌≡◌, ℕ, ◌≤◌, ◌⊎◌, inl, inr, Bool, true, false, cond, List, [], ◌∷◌, length, map, Some, refl, sym, ap, subst, ◌∙◌, arith}
+use Rattle.wt_env.specs.declared.types.EngineOrModuleTypeIndex.{EngineOrModuleTypeIndex}
+use Rattle.wt_env.specs.declared.types.EngineOrModuleTypeIndex.TheVariants as index
+use Rattle.wt_tree.specs.References.{group_refs}
+use Rattle.wt_keys.specs.declared.entry.RecGroupEntry.{RecGroupEntry}
+use Rattle.wt_model.specs.Registered.{RegisteredGroup}
+use Rattle.wt_env.specs.Among.{Among}
+use Rattle.wt_model.specs.Sound.{IsRising, IsLocated}
+use Rattle.wt_keys.specs.Entries.{made_of, made_by}
+use Rattle.wt_model.specs.Removal.{kept_made}
+use Rattle.wt_keys.specs.Keys.{named_at, IsKey, AreApartTrees, AreKeys}
+use Rattle.wt_keys.specs.Keys.{AreShown}
+use Rattle.wt_holds.specs.Marks.{kept_entries}
+use Rattle.wt_env.proofs.lists.Mapped.{among_mapped}
+use Rattle.wt_model.proofs.removal.KeptPart.{KeepsNamed, among-kept, rising-kept, trees-kept, locate-kept, is_located-kept, names_types-kept}
+use Rattle.wt_env.proofs.lists.Members.{first_same, rest_same}
+use Rattle.wt_holds.proofs.marks.Marked.{entries-marked}
+
+-- ---- which are kept
+
+among-kept_entries : (keep : ℕ → Bool) (entries : List RecGroupEntry) (entry : RecGroupEntry) → Among entry (kept_entries keep entries) → Among entry entries × (keep entry.number ≡ true)
+among-kept_entries keep [] entry at = absurd at
+among-kept_entries keep (x ∷ entries) entry at = by (keep x.number) refl at (among-kept_entries keep entries entry)
+  where
+    by : (b : Bool) → keep x.number ≡ b → Among entry (cond b (x ∷ kept_entries keep entries) (kept_entries keep entries))
+        → (Among entry (kept_entries keep entries) → Among entry entries × (keep entry.number ≡ true)) → ((entry ≡ x) ⊎ Among entry entries) × (keep entry.number ≡ true)
+    by true e (inl same) later = (inl same, ap (λ (y : RecGroupEntry). keep y.number) same ∙ e)
+    by true e (inr there) later = let found = later there in (inr found.0, found.1)
+    by false e there later = let found = later there in (inr found.0, found.1)
+
+pub length-kept_entries : (keep : ℕ → Bool) (entries : List RecGroupEntry) → length (kept_entries keep entries) ≤ length entries
+length-kept_entries keep [] = omega arith
+length-kept_entries keep (x ∷ entries) = by (keep x.number) (length-kept_entries keep entries)
+  where
+    by : (b : Bool) → length (kept_entries keep entries) ≤ length entries → length (cond b (x ∷ kept_entries keep entries) (kept_entries keep entries)) ≤ length (x ∷ entries)
+    by true shorter = omega arith
+    by false shorter = omega arith
+
+-- ---- references still name what they did
+
+named-kept : (keep : ℕ → Bool) (made : List RegisteredGroup) (x : EngineOrModuleTypeIndex) (o : ℕ × ℕ) → keep o.0 ≡ true → named_at made x ≡ Some o → named_at (kept_made keep made) x ≡ Some o
+named-kept keep made (index.Engine i) o passes is = locate-kept keep made i o is passes
+named-kept keep made (index.Module i) o passes is = absurd (cc)
+named-kept keep made (index.RecGroup k) o passes is = absurd (cc)
+
+refs-kept : (keep : ℕ → Bool) (made : List RegisteredGroup) (xs : List EngineOrModuleTypeIndex) (os : List (ℕ × ℕ)) → ((o : ℕ × ℕ) → Among o os → keep o.0 ≡ true)
+    → map (named_at made) xs ≡ map Some os → map (named_at (kept_made keep made)) xs ≡ map Some os
+refs-kept keep made [] [] passes is = refl
+refs-kept keep made [] (o ∷ os) passes is = absurd (cc)
+refs-kept keep made (x ∷ xs) [] passes is = absurd (cc)
+refs-kept keep made (x ∷ xs) (o ∷ os) passes is =
+    let here = named-kept keep made x o (passes o (inl refl)) (first_same is) in
+    let rest = refs-kept keep made xs os (λ p at. passes p (inr at)) (rest_same is) in
+    λ t. here t ∷ rest t
+
+key-kept : (keep : ℕ → Bool) (made : List RegisteredGroup) (entry : RecGroupEntry) → ((reference : ℕ × ℕ) → Among reference entry.outer → keep reference.0 ≡ true) → IsKey made entry → IsKey (kept_made keep made) entry
+key-kept keep made entry passes key = record {
+  names = refs-kept keep made (group_refs entry.group.types) entry.outer passes key.names;
+  older = key.older;
+  members = key.members;
+  name_types = names_types-kept keep made (made_of entry).description passes key.name_types;
+}
+
+apart-kept : (keep : ℕ → Bool) (made : List RegisteredGroup) → KeepsNamed keep made → AreApartTrees made → AreApartTrees (kept_made keep made)
+apart-kept keep made named apart a b at bt same =
+    let first = among-kept keep made a at in
+    let second = among-kept keep made b bt in
+    apart a b first.0 second.0 (sym (trees-kept keep made a.number named first.1) ∙ (same ∙ trees-kept keep made b.number named second.1))
+
+-- ---- all that is true of keys
+
+pub keys-kept : (keep : ℕ → Bool) (entries : List RecGroupEntry) (top : ℕ) → AreKeys entries top → KeepsNamed keep (made_by entries) → AreKeys (kept_entries keep entries) top
+keys-kept keep entries top keys named = record {
+  rising = subst (λ (made : List RegisteredGroup). IsRising 0 made top) (sym same) (rising-kept keep 0 top (made_by entries) keys.rising);
+  keys = λ entry at.
+      let found = among-kept_entries keep entries entry at in
+      subst (λ (made : List RegisteredGroup). IsKey made entry) (sym same)
+      (key-kept keep (made_by entries) entry (λ reference refers. named (made_of entry) reference (among_mapped made_of entries entry found.0) found.1 refers) (keys.keys entry found.0));
+  located = subst IsLocated (sym same) (is_located-kept keep (made_by entries) keys.located);
+  apart = subst AreApartTrees (sym same) (apart-kept keep (made_by entries) named keys.apart);
+}
+  where
+    same : made_by (kept_entries keep entries) ≡ kept_made keep (made_by entries)
+    same = entries-marked keep entries
+
+pub shown-kept : (keep : ℕ → Bool) (entries : List RecGroupEntry) → AreShown entries → AreShown (kept_entries keep entries)
+shown-kept keep entries shown entry at = shown entry (among-kept_entries keep entries entry at).0

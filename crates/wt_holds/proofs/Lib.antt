@@ -1,0 +1,9 @@
+pub mod Counted
+pub mod Ending
+pub mod Held
+pub mod HoldKept
+pub mod KeptKeys
+pub mod Losing
+pub mod PartKept
+pub mod Ready
+pub mod marks

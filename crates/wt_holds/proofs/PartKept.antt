@@ -1,0 +1,58 @@
+-- Where what isn't reached is removed, what is kept stays kept.
+use Rattle.std.proofs.Common.{◌≡◌, ℕ, Bool, List, length, sym, ap, subst, arith}
+use Rattle.wt_env.specs.Limits.{EngineParts}
+use Rattle.wt_keys.specs.declared.entry.RecGroupEntry.{RecGroupEntry}
+use Rattle.wt_model.specs.declared.ever.EverRegistered.{EverRegistered}
+use Rattle.wt_holds.specs.declared.inner.TypeRegistryInner.{TypeRegistryInner}
+use Rattle.wt_keys.specs.Entries.{made_by}
+use Rattle.wt_holds.specs.Kept.{registry_at}
+use Rattle.wt_keys.specs.Keys.{AreKeys}
+use Rattle.wt_keys.specs.Keys.{AreShown}
+use Rattle.wt_holds.specs.Kept.{AreKept}
+use Rattle.wt_holds.specs.Marks.{kept_entries}
+use Rattle.wt_model.specs.Registered.{GroupHolds, Registry}
+use Rattle.wt_model.specs.Removal.{reached_in, reached_part}
+use Rattle.wt_model.specs.Sound.{AreBelow, HoldsInvariant}
+use Rattle.wt_keys.proofs.AddedKeys.{names_older}
+use Rattle.wt_holds.proofs.KeptKeys.{length-kept_entries, keys-kept, shown-kept}
+use Rattle.wt_model.proofs.removal.KeptPart.{KeepsLed, KeepsNamed, led-named, below-kept}
+use Rattle.wt_model.proofs.removal.Removing.{part-led}
+
+-- the registry of the groups, with these counts
+abbrev pub counted_as : EngineParts → TypeRegistryInner → List GroupHolds → Registry
+counted_as engine groups standings = record (registry_at engine groups) { standings = standings }
+
+pub part-keeps : (engine : EngineParts) (groups after : TypeRegistryInner) (standings : List GroupHolds) → AreKept engine groups
+    → reached_part (counted_as engine groups standings) ≡ registry_at engine after
+    → after.entries.items ≡ kept_entries (reached_in (counted_as engine groups standings)) groups.entries.items
+    → length after.marks.items ≡ length after.entries.items
+    → HoldsInvariant engine (reached_part (counted_as engine groups standings)).made (reached_part (counted_as engine groups standings)).standings
+    → AreKept engine after
+part-keeps engine groups after standings kept part entries marks stands = record {
+  keys = subst (λ (es : List RecGroupEntry). AreKeys es after.given.numbers) (sym entries)
+      (subst (λ (g : EverRegistered). AreKeys (kept_entries keep old) g.numbers) given (keys-kept keep old groups.given.numbers kept.keys named));
+  shown = subst AreShown (sym entries) (shown-kept keep old kept.shown);
+  within =
+      let few = length-kept_entries keep old in
+      let same = ap length entries in
+      let before = kept.within in
+      omega (arith, few, same, before);
+  below = subst (λ (r : Registry). AreBelow engine.limits.types r.made) part (below-kept keep (made_by old) engine.limits.types kept.below);
+  marks = marks;
+  holds = subst (λ (r : Registry). HoldsInvariant engine r.made r.standings) part stands;
+}
+  where
+    old : List RecGroupEntry
+    old = groups.entries.items
+
+    keep : ℕ → Bool
+    keep = reached_in (counted_as engine groups standings)
+
+    given : groups.given ≡ after.given
+    given = ap (λ (r : Registry). r.given) part
+
+    led : KeepsLed keep (made_by old)
+    led = part-led (counted_as engine groups standings) groups.given.numbers kept.keys.rising (names_older old groups.given.numbers kept.keys)
+
+    named : KeepsNamed keep (made_by old)
+    named = led-named keep (made_by old) led

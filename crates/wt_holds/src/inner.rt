@@ -1,0 +1,17 @@
+//! All that is registered: the groups, how many holds the parties have of each, and how much was ever
+//! registered.
+
+use crate::hold_counts::HoldCounts;
+use wt_keys::entry::RecGroupEntry;
+use wt_model::ever::EverRegistered;
+
+/// The registered groups, from the oldest on, with the counts of their holds in the same order.
+#[derive(Debug, Drop)]
+pub struct TypeRegistryInner {
+    pub entries: Vec<RecGroupEntry>,
+    pub counts: Vec<HoldCounts>,
+    /// A mark for each group, for the time of a search of what is reached: their room is taken when a group
+    /// is registered.
+    pub marks: Vec<bool>,
+    pub given: EverRegistered,
+}

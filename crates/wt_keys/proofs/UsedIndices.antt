@@ -1,0 +1,16 @@
+-- Which indices the entries use.
+use Rattle.std.proofs.Common.{◌≡◌, ℕ, ◌==◌, ◌||◌, List, [], ◌∷◌, map, refl, sym, ◌∙◌}
+use Rattle.std.specs.List.{list_any}
+use Rattle.std.proofs.lemmas.List.Folds.{list_any-append}
+use Rattle.wt_model.specs.Indices.{used, is_used}
+use Rattle.wt_model.proofs.indices.FreeIndices.{list_any-bits}
+use Rattle.wt_keys.specs.declared.entry.RecGroupEntry.{RecGroupEntry}
+use Rattle.wt_keys.specs.Entries.{made_by}
+
+-- an index is used where one of the entries has it
+pub is_used-by : (k : ℕ) (entries : List RecGroupEntry) → list_any (λ entry. list_any (λ i. i.0 == k) entry.indices) entries ≡ is_used (used (made_by entries)) k
+is_used-by k [] = refl
+is_used-by k (entry ∷ entries) =
+    let here = list_any-bits k entry.indices in
+    let later = is_used-by k entries in
+    (λ i. here i || later i) ∙ sym (list_any-append (λ j. j == k) (map (λ i. i.0) entry.indices) (used (made_by entries)))

@@ -1,0 +1,85 @@
+-- Groups by keys: what is true of the key of each registered group, and of the form in which it is shown.
+use Rattle.std.specs.Prelude.{◌≡◌, ℕ, ◌+◌, ◌<◌, List, length, map, slice_get, Option, Some, None, option_map, unwrap_or}
+use Rattle.std.specs.List.{find}
+use Rattle.wt_env.specs.Equality.{rec_group_eq}
+use Rattle.wt_env.specs.declared.types.Kind.{Kind}
+use Rattle.wt_env.specs.declared.types.VMSharedTypeIndex.{VMSharedTypeIndex}
+use Rattle.wt_env.specs.declared.types.EngineOrModuleTypeIndex.{EngineOrModuleTypeIndex}
+use Rattle.wt_env.specs.declared.types.EngineOrModuleTypeIndex.TheVariants as index
+use Rattle.wt_env.specs.declared.types.WasmSubType.{WasmSubType}
+use Rattle.wt_tree.specs.References.{group_refs}
+use Rattle.wt_tree.specs.MapRefs.{map_group_refs}
+use Rattle.wt_rules.specs.Rules.{kinded_refs, type_indices}
+use Rattle.wt_keys.specs.declared.entry.RecGroupEntry.{RecGroupEntry}
+use Rattle.wt_model.specs.Registered.{RegisteredGroup}
+use Rattle.wt_env.specs.Among.{Among}
+use Rattle.wt_model.specs.Trees.{trees}
+use Rattle.wt_model.specs.NamedTypes.{kind_at, HasKind, NamesTypes}
+use Rattle.wt_model.specs.Indices.{locate, used, AreUnused, AreDistinct}
+use Rattle.wt_model.specs.Sound.{IsRising, IsLocated}
+use Rattle.wt_keys.specs.Entries.{made_of, made_by}
+
+-- the number and place that a reference of a key names
+abbrev pub named_at : List RegisteredGroup → EngineOrModuleTypeIndex → Option (ℕ × ℕ)
+named_at made (index.Engine i) = locate made i
+named_at made (index.Module i) = None
+named_at made (index.RecGroup k) = None
+
+-- each reference that leaves these types is the index of a registered type, and this is its number and place
+abbrev pub Names : List RegisteredGroup → List WasmSubType → List (ℕ × ℕ) → Type 0
+Names made types outer = map (named_at made) (group_refs types) ≡ map Some outer
+
+-- an index in a key names a type of this kind: a registered type, or a member of the key
+abbrev pub KeyNamesKind : List RegisteredGroup → List WasmSubType → Kind → EngineOrModuleTypeIndex → Type 0
+KeyNamesKind made types wanted (index.Engine i) = (at : ℕ × ℕ) × (locate made i ≡ Some at) × HasKind made at wanted
+KeyNamesKind made types wanted (index.Module n) = ⊥
+KeyNamesKind made types wanted (index.RecGroup k) = kind_at types k ≡ Some wanted
+
+-- The types of a key have each place of their own that stands in them, supertypes included, and each reference
+-- names a type of the kind that it says.
+pub record KeyNamesTypes (made : List RegisteredGroup) (types : List WasmSubType) : Type 0 where
+  pub own : (ty : WasmSubType) (k : ℕ) → Among ty types → Among (index.RecGroup k) (type_indices ty) → k < length types
+  pub kinds : (ty : WasmSubType) (wanted : Kind) (i : EngineOrModuleTypeIndex) → Among ty types → Among (wanted, i) (kinded_refs ty) → KeyNamesKind made types wanted i
+
+-- What is true of one entry among those that are registered: its references that leave are indices of
+-- registered types, which outer tells, of older groups; it has one index for each member; and what stands in it
+-- names types of the kinds that are said.
+pub record IsKey (made : List RegisteredGroup) (entry : RecGroupEntry) : Type 0 where
+  pub names : Names made entry.group.types entry.outer
+  pub older : (reference : ℕ × ℕ) → Among reference entry.outer → reference.0 < entry.number
+  pub members : length entry.indices ≡ length entry.group.types
+  pub name_types : NamesTypes made (made_of entry).description
+
+-- registered groups with different numbers have different trees
+abbrev pub AreApartTrees : List RegisteredGroup → Type 0
+AreApartTrees made = (a b : RegisteredGroup) → Among a made → Among b made → trees made a.number ≡ trees made b.number → a.number ≡ b.number
+
+-- what is true of all entries, of which none has a number above top
+pub record AreKeys (entries : List RecGroupEntry) (top : ℕ) : Type 0 where
+  pub rising : IsRising 0 (made_by entries) top
+  pub keys : (entry : RecGroupEntry) → Among entry entries → IsKey (made_by entries) entry
+  pub located : IsLocated (made_by entries)
+  pub apart : AreApartTrees (made_by entries)
+
+-- ---- a new entry
+
+-- what an entry needs to be added: the next number, a key that no entry has, and indices of its own
+pub record IsNewKey (entries : List RecGroupEntry) (top : ℕ) (entry : RecGroupEntry) : Type 0 where
+  pub number : entry.number ≡ top + 1
+  pub key : IsKey (made_by entries) entry
+  pub new : find (λ e. rec_group_eq e.group entry.group) entries ≡ None
+  pub unused : AreUnused (used (made_by entries)) entry.indices
+  pub distinct : AreDistinct entry.indices
+  pub within : (i : VMSharedTypeIndex) → Among i entry.indices → i.0 < length (used (made_by entries)) + length entry.indices
+
+-- ---- every reference as an index
+
+-- a reference of a key, with those to its own members as indices
+abbrev pub own_shown : List VMSharedTypeIndex → EngineOrModuleTypeIndex → EngineOrModuleTypeIndex
+own_shown indices (index.Engine i) = index.Engine i
+own_shown indices (index.Module i) = index.Module i
+own_shown indices (index.RecGroup k) = unwrap_or (option_map index.Engine (slice_get indices k)) (index.RecGroup k)
+
+-- the form of an entry's members that is shown has every reference as an index
+abbrev pub AreShown : List RecGroupEntry → Type 0
+AreShown entries = (entry : RecGroupEntry) → Among entry entries → entry.shown ≡ map_group_refs (own_shown entry.indices) entry.group.types

@@ -1,0 +1,108 @@
+//! The plain searches of the registered groups: each looks at one after another.
+
+ghost use Rattle.std.specs.Prelude.{◌≡◌, ℕ, ◌^◌, ◌<◌, [], ◌∷◌, ◌++◌, length, false, IfOk, OnErr, ◌==◌, position, map, option_map};
+ghost use Rattle.std.specs.List.{find, list_any, AllByRecursion};
+ghost use Rattle.std.specs.Option.{option_copied};
+ghost use Rattle.wt_env.specs.Equality.{rec_group_eq};
+ghost use Rattle.wt_model.specs.Indices.{used, is_used as is_used_number, place_in, locate};
+ghost use Rattle.wt_model.specs.Shown.{sub_type_at};
+ghost use Rattle.wt_keys.specs.Keys.{AreKeys};
+ghost use Rattle.wt_keys.specs.Keys.{AreShown};
+ghost use Rattle.wt_keys.specs.Entries.{made_by};
+ghost use Rattle.wt_model.specs.Live.{live_of};
+
+use crate::entry::RecGroupEntry;
+use std::alloc::Global;
+use wt_env::memory::OutOfMemory;
+use wt_env::seq::Seq;
+use wt_env::types::{VMSharedTypeIndex, WasmRecGroup, WasmSubType};
+use wt_model::live::LiveGroup;
+
+/// The entry that has this key.
+pub fn find_group<'a>(entries: &'a [RecGroupEntry], key: &WasmRecGroup) -> Option<&'a RecGroupEntry>
+    ensures { option_copied result ≡ find (λ entry. rec_group_eq entry.group key.now) entries.now }
+{
+    entries.iter().find(|entry| entry.group == *key)
+}
+
+fn holds_index(entry: &RecGroupEntry, candidate: u32) -> bool
+    ensures { result ≡ list_any (λ i. i.0 == candidate) entry.now.indices }
+{
+    entry
+        .indices
+        .as_slice()
+        .iter()
+        .any(|index| index.bits() == candidate)
+}
+
+fn any_holds_index(entries: &[RecGroupEntry], candidate: u32) -> bool
+    ensures { result ≡ list_any (λ entry. list_any (λ i. i.0 == candidate) entry.indices) entries.now }
+{
+    entries.iter().any(|entry| holds_index(entry, candidate))
+}
+
+pub fn is_used(entries: &[RecGroupEntry], candidate: u32) -> bool
+    ensures { result ≡ is_used_number (used (made_by entries.now)) candidate }
+{
+    any_holds_index(entries, candidate)
+}
+
+fn position_of(indices: &[VMSharedTypeIndex], index: VMSharedTypeIndex) -> Option<usize>
+    ensures { result ≡ position (λ at. at.0 == index.0) indices.now }
+{
+    indices.iter().position(|at| at.bits() == index.bits())
+}
+
+pub fn place_of(indices: &[VMSharedTypeIndex], index: VMSharedTypeIndex) -> Option<usize>
+    ensures { result ≡ place_in index indices.now }
+{
+    position_of(indices, index)
+}
+
+/// The sub type that has this index.
+pub fn borrow_from(entries: &[RecGroupEntry], index: VMSharedTypeIndex) -> Option<&WasmSubType>
+    requires keys { (top : ℕ) × AreKeys entries.now top }
+    requires shown { AreShown entries.now }
+    ensures { option_copied result ≡ sub_type_at (made_by entries.now) index }
+{
+    for entry in entries {
+        if let Some(place) = place_of(entry.indices.as_slice(), index) {
+            return entry.shown.get(place);
+        }
+    }
+    None
+}
+
+fn index_bits(alloc: Global, indices: &[VMSharedTypeIndex]) -> Result<Seq<u32>, OutOfMemory>
+    ensures { IfOk result (λ bits. bits ≡ map (λ i. i.0) indices.now) }
+{
+    let bits = indices.iter().map(|index| index.bits()).collect(alloc)?;
+    Ok(Seq::from_vec(bits))
+}
+
+/// Each entry as it is told, in order.
+pub fn live_groups(alloc: Global, entries: &[RecGroupEntry]) -> Result<Seq<LiveGroup>, OutOfMemory>
+    ensures { IfOk result (λ groups. groups ≡ live_of (made_by entries.now)) }
+{
+    let mut groups = Seq::new(alloc);
+    for entry in entries {
+        let indices = index_bits(alloc, entry.indices.as_slice())?;
+        groups.push(LiveGroup {
+            number: entry.number,
+            indices,
+        })?;
+    }
+    Ok(groups)
+}
+
+/// The registration number of the group of the type that has this index.
+pub fn number_at(entries: &[RecGroupEntry], index: VMSharedTypeIndex) -> Option<u64>
+    ensures { result ≡ option_map (λ at. at.0) (locate (made_by entries.now) index) }
+{
+    for entry in entries {
+        if place_of(entry.indices.as_slice(), index).is_some() {
+            return Some(entry.number);
+        }
+    }
+    None
+}

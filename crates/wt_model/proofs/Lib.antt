@@ -1,0 +1,6 @@
+pub mod trees
+pub mod indices
+pub mod holds
+pub mod removal
+pub mod plan
+pub mod NamedTypes

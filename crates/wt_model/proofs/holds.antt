@@ -1,0 +1,10 @@
+pub mod HeldEach
+pub mod HeldMore
+pub mod HoldChanges
+pub mod HoldIn
+pub mod Leads
+pub mod Looked
+pub mod Rooted
+pub mod Stand
+pub mod Standings
+pub mod Zeros

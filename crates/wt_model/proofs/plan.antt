@@ -1,0 +1,5 @@
+pub mod CarriedOut
+pub mod Gaining
+pub mod HoldsWanted
+pub mod Refusals
+pub mod StopWaiting

@@ -1,0 +1,3 @@
+pub mod KnownTrees
+pub mod OneTree
+pub mod Trees

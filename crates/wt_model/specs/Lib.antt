@@ -1,0 +1,15 @@
+pub mod Registered
+pub mod Trees
+pub mod NamedTypes
+pub mod Indices
+pub mod Describe
+pub mod Reach
+pub mod Holds
+pub mod Plan
+pub mod Limits
+pub mod Registration
+pub mod Removal
+pub mod Sound
+pub mod Changes
+pub mod Shown
+pub mod Live

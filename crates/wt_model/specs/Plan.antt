@@ -1,0 +1,75 @@
+-- What a registration of groups comes to, before any limit is tested and any hold is added.
+use Rattle.std.specs.Prelude.{◌≡◌, ℕ, ◌+◌, List, [], ◌∷◌, ◌++◌, length, Option, Some, None}
+use Rattle.wt_env.specs.Among.{Among}
+use Rattle.wt_env.specs.declared.types.VMSharedTypeIndex.{VMSharedTypeIndex}
+use Rattle.wt_env.specs.declared.types.WasmSubType.{WasmSubType}
+use Rattle.wt_env.specs.declared.types.WasmRecGroup.{WasmRecGroup}
+use Rattle.wt_tree.specs.Canonical.{canonical_index}
+use Rattle.wt_tree.specs.MapRefs.{map_group_refs}
+use Rattle.wt_tree.specs.Tree.{Description}
+use Rattle.wt_model.specs.declared.ever.EverRegistered.{EverRegistered}
+use Rattle.wt_model.specs.Registered.{RegisteredGroup, Registry}
+use Rattle.wt_model.specs.Indices.{used, assign_shared_type_indices}
+use Rattle.wt_model.specs.Describe.{describe, tree_of, find_tree}
+use Rattle.wt_model.specs.Reach.{edges}
+
+-- The groups that are registered, those that are new from the oldest on, how much was ever registered with
+-- them, the registration number of the group of each occurrence, and the index of each type so far.
+pub record Plan : Type 0 where
+  pub registered : List RegisteredGroup
+  pub added : List RegisteredGroup
+  pub given : EverRegistered
+  pub numbers : List ℕ
+  pub map : List VMSharedTypeIndex
+
+abbrev pub empty_plan : Registry → Plan
+empty_plan registry = record { registered = registry.made; added = []; given = registry.given; numbers = []; map = [] }
+
+-- what is registered after the plan
+abbrev pub groups_of : Plan → List RegisteredGroup
+groups_of plan = plan.registered ++ plan.added
+
+-- one more occurrence of a group
+abbrev pub with_occurrence : Plan → RegisteredGroup → Plan
+with_occurrence plan group = record plan { numbers = plan.numbers ++ group.number ∷ []; map = plan.map ++ group.indices }
+
+-- a new group takes the next registration number, and the smallest free indices
+abbrev pub new_group : Plan → Description → RegisteredGroup
+new_group plan description = record {
+  number = plan.given.numbers + 1;
+  description = description;
+  indices = assign_shared_type_indices (length description.members) (used (groups_of plan));
+}
+
+-- one more group was ever registered
+abbrev pub ever_with : EverRegistered → RegisteredGroup → EverRegistered
+ever_with given group = record {
+  numbers = given.numbers + 1;
+  types = given.types + length group.description.members;
+  references = given.references + length (edges group);
+}
+
+abbrev pub with_added : Plan → RegisteredGroup → Plan
+with_added plan group = record plan { added = plan.added ++ group ∷ []; given = ever_with plan.given group }
+
+abbrev pub planned : Plan → Description → Option RegisteredGroup → Plan
+planned plan description (Some group) = with_occurrence plan group
+planned plan description None = with_occurrence (with_added plan (new_group plan description)) (new_group plan description)
+
+-- One more group, whose references that leave it are engine indices: a group that has its tree is that group.
+abbrev pub plan_key : Plan → List WasmSubType → Plan
+plan_key plan key = planned plan (describe (groups_of plan) key) (find_tree (groups_of plan) (tree_of (groups_of plan) key))
+
+-- one more group of a module, whose types count from behind those so far
+abbrev pub plan_group : Plan → WasmRecGroup → Plan
+plan_group plan group = plan_key plan (map_group_refs (canonical_index (length plan.map) plan.map) group.types)
+
+-- the groups of a module in order
+abbrev pub plan_groups : Plan → List WasmRecGroup → Plan
+plan_groups plan [] = plan
+plan_groups plan (group ∷ groups) = plan_groups (plan_group plan group) groups
+
+-- Each new group occurs, and what occurs is registered or new.
+pub record Occurs (plan : Plan) : Type 0 where
+  pub every : (group : RegisteredGroup) → Among group plan.added → Among group.number plan.numbers
+  pub only : (number : ℕ) → Among number plan.numbers → (group : RegisteredGroup) × Among group (groups_of plan) × (group.number ≡ number)

@@ -1,0 +1,143 @@
+-- Registrations: the build checks, and what an accepted registration makes.
+use Rattle.std.specs.Prelude.{◌≡◌, ℕ, ◌+◌, ◌⊎◌, List, [], ◌∷◌, ◌++◌, map, replicate, slice_get, unwrap_or, Bool, false, nat_lt, ◌||◌, if◌then◌else◌, Option, Some, None, option_map, Result, Ok, Err}
+use Rattle.std.specs.Option.{option_or}
+use Rattle.wt_env.specs.Limits.{EngineParts}
+use Rattle.wt_env.specs.declared.limits.Limit.TheVariants.{Parties}
+use Rattle.wt_env.specs.declared.types.WasmSubType.{WasmSubType}
+use Rattle.wt_env.specs.declared.types.WasmRecGroup.{WasmRecGroup}
+use Rattle.wt_tree.specs.Tree.{ClosedTree}
+use Rattle.wt_tree.specs.ModuleTree.{module_trees}
+use Rattle.wt_rules.specs.Rules.{first_broken, is_function, are_functions}
+use Rattle.wt_model.specs.declared.handle_kind.HandleKind.{HandleKind}
+use Rattle.wt_model.specs.declared.refusal.BuildRefusal.{BuildRefusal}
+use Rattle.wt_model.specs.declared.refusal.BuildRefusal.TheVariants as refusal
+use Rattle.wt_model.specs.Registered.{RegisteredGroup, GroupHolds, Registry}
+use Rattle.wt_model.specs.Describe.{tree_of}
+use Rattle.wt_model.specs.Reach.{edges}
+use Rattle.wt_model.specs.Holds.{Hold, Collection, stop_waiting, hold_each}
+use Rattle.wt_model.specs.Plan.{Plan, empty_plan, groups_of, plan_key, plan_groups}
+use Rattle.wt_model.specs.Limits.{passed_limit}
+
+-- What is to be registered: one type of a host, whose references are engine indices, or the groups of a module.
+pub data Registration : Type 0 where
+  host_type : WasmSubType → Registration
+  module_groups : List WasmRecGroup → Registration
+
+-- The closed trees of what is to be registered, where these groups are registered.
+abbrev pub trees_of : List RegisteredGroup → Registration → List ClosedTree
+trees_of made (host_type ty) = record { tree = tree_of made (ty ∷ []); place = 0 } ∷ []
+trees_of made (module_groups groups) = module_trees [] groups
+
+-- what it comes to, where it is accepted
+abbrev pub registration_plan : Registry → Registration → Plan
+registration_plan registry (host_type ty) = plan_key (empty_plan registry) (ty ∷ [])
+registration_plan registry (module_groups groups) = plan_groups (empty_plan registry) groups
+
+-- ---- the build checks
+
+-- the first rule of module types that is broken
+abbrev pub rule_refusal : Registration → Option BuildRefusal
+rule_refusal (host_type ty) = None
+rule_refusal (module_groups groups) = option_map (λ broken. refusal.InvalidModule broken.0 broken.1) (first_broken groups)
+
+-- whether it has functions alone
+abbrev pub has_functions_alone : Registration → Bool
+has_functions_alone (host_type ty) = is_function ty
+has_functions_alone (module_groups groups) = are_functions groups
+
+-- an engine without garbage collection takes functions alone
+abbrev pub gc_refusal : Registry → Registration → Option BuildRefusal
+gc_refusal registry registration = if registry.engine.gc || has_functions_alone registration then None else Some refusal.NoGc
+
+-- the first limit that would be passed
+abbrev pub limit_refusal : Registry → ℕ → Registration → Option BuildRefusal
+limit_refusal registry party registration = option_map refusal.Full (passed_limit registry party (registration_plan registry registration))
+
+-- The first cause for which a registration by a party below the limit is refused, if there is one: a broken
+-- rule, then no garbage collection, then a limit.
+abbrev pub registration_refusal : Registry → ℕ → Registration → Option BuildRefusal
+registration_refusal registry party registration =
+    option_or (rule_refusal registration) (option_or (gc_refusal registry registration) (limit_refusal registry party registration))
+
+-- A registration as a command asks for it: the party whose command it is, the handles that it names, in the
+-- order of its keys and with the kind that each has to be of, and what is to be registered.
+pub record RegistrationCommand : Type 0 where
+  pub party : ℕ
+  pub handles : List (HandleKind × ℕ)
+  pub registration : Registration
+
+-- why a registration of a command is refused
+pub data Cause : Type 0 where
+  no_such_handle : ℕ → HandleKind → ℕ → Cause
+  refused : BuildRefusal → Cause
+
+-- the limit on parties, where the party's number isn't below it
+abbrev pub party_refusal : Registry → ℕ → Option BuildRefusal
+party_refusal registry party =
+    if nat_lt party registry.engine.limits.parties then None
+    else Some (refusal.Full (record { limit = Parties; bound = registry.engine.limits.parties; wanted = party + 1 }))
+
+-- The build checks: the first cause for which a registration of a command is refused, if there is one, where
+-- the party's handles are of these kinds. The party's limit comes first, then the handles, then all else.
+abbrev pub build_check : Registry → (HandleKind → ℕ → Bool) → RegistrationCommand → Option Cause
+build_check registry has command =
+    option_or (option_map refused (party_refusal registry command.party))
+    (option_or (missing_handle command.party has command.handles)
+    (option_map refused (registration_refusal registry command.party command.registration)))
+  where
+    missing_handle : ℕ → (HandleKind → ℕ → Bool) → List (HandleKind × ℕ) → Option Cause
+    missing_handle party has [] = None
+    missing_handle party has (named ∷ rest) = if has named.0 named.1 then missing_handle party has rest else Some (no_such_handle party named.0 named.1)
+
+-- ---- what an accepted registration makes
+
+-- nobody holds a new group yet
+abbrev pub new_holds : EngineParts → RegisteredGroup → GroupHolds
+new_holds engine group = record { number = group.number; holds = replicate engine.limits.parties 0; waits = false }
+
+-- what new groups lead to doesn't wait
+abbrev pub stop_waiting_each : List RegisteredGroup → List GroupHolds → List GroupHolds
+stop_waiting_each [] standings = standings
+stop_waiting_each (group ∷ rest) standings = stop_waiting_each rest (stop_waiting (edges group) standings)
+
+-- The registry after a plan was carried out for a party: the new groups are registered, and the party has one
+-- more hold of each group for each time that it occurs.
+abbrev pub carried_out : Registry → ℕ → Plan → Registry
+carried_out registry party plan = record registry {
+  made = groups_of plan;
+  given = plan.given;
+  standings = hold_each party plan.numbers (stop_waiting_each plan.added registry.standings ++ map (new_holds registry.engine) plan.added);
+}
+
+-- what was made, unless it is refused
+abbrev pub made_unless : {A : Type 0} → Option BuildRefusal → A → Result A BuildRefusal
+made_unless None made = Ok made
+made_unless (Some why) made = Err why
+
+abbrev pub hold_of : ℕ → ℕ → Plan → Hold
+hold_of engine party plan = record {
+  engine = engine;
+  index = unwrap_or (slice_get plan.map 0) (record { 0 = 0 });
+  number = unwrap_or (slice_get plan.numbers 0) 0;
+  party = party;
+}
+
+-- A registration of one type by a party: its hold and the registry after it, or the first cause why not.
+abbrev pub register : Registry → ℕ → WasmSubType → Result (Hold × Registry) BuildRefusal
+register registry party ty =
+    let plan = registration_plan registry (host_type ty) in
+    made_unless (registration_refusal registry party (host_type ty)) (hold_of registry.engine.number party plan, carried_out registry party plan)
+
+abbrev pub collection_of : ℕ → ℕ → Plan → Collection
+collection_of engine party plan = record { engine = engine; party = party; numbers = plan.numbers; map = plan.map }
+
+-- A registration of a module's groups by a party: what it holds then and the registry after it, or the first
+-- cause why not.
+abbrev pub register_groups : Registry → ℕ → List WasmRecGroup → Result (Collection × Registry) BuildRefusal
+register_groups registry party groups =
+    let plan = registration_plan registry (module_groups groups) in
+    made_unless (registration_refusal registry party (module_groups groups)) (collection_of registry.engine.number party plan, carried_out registry party plan)
+
+-- A refusal is want of memory, or the first cause.
+abbrev pub IsRefusal : Option BuildRefusal → BuildRefusal → Type 0
+IsRefusal cause why = (why ≡ refusal.OutOfMemory) ⊎ (cause ≡ Some why)

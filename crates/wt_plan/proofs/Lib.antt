@@ -1,0 +1,9 @@
+pub mod Joined
+pub mod ModuleKeys
+pub mod ModuleKinds
+pub mod HostKeys
+pub mod Named
+pub mod PlannedGroups
+pub mod Planning
+pub mod Checked
+pub mod NewIndices

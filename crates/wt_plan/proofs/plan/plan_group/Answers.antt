@@ -1,0 +1,50 @@
+-- the canonical form of a module's group is planned
+use Rattle.std.proofs.Common.{◌≡◌, ℕ, ◌++◌, List, length, Result, Ok, Err, OnOk, sym, ap, subst, ◌∙◌}
+use Rattle.wt_env.specs.declared.types.VMSharedTypeIndex.{VMSharedTypeIndex}
+use Rattle.wt_env.specs.declared.types.WasmSubType.{WasmSubType}
+use Rattle.wt_tree.specs.Canonical.{canonical_index}
+use Rattle.wt_tree.specs.MapRefs.{map_group_refs}
+use Rattle.wt_keys.specs.Entries.{made_by}
+use Rattle.wt_keys.specs.Keys.{KeyNamesTypes}
+use Rattle.wt_model.specs.Plan.{plan_key}
+use Rattle.wt_plan.specs.Planned.{AreNamed, PlansOne, plan_of}
+use Rattle.wt_plan.proofs.plan.plan_group.Goals as goal
+
+-- the canonical form by what the calls told is that of the plan's types so far
+canonical_same : (start count : ℕ) (map slice : List VMSharedTypeIndex) (group types key : List WasmSubType) → start ≡ count → length slice ≡ count → slice ≡ map → types ≡ group
+    → key ≡ map_group_refs (canonical_index start slice) types → key ≡ map_group_refs (canonical_index (length map) map) group
+canonical_same start count map slice group types key same long value given is =
+    is
+    ∙ ap (λ (n : ℕ). map_group_refs (canonical_index n slice) types) (same ∙ sym long)
+    ∙ ap (λ (is : List VMSharedTypeIndex). map_group_refs (canonical_index (length is) is) types) value
+    ∙ ap (map_group_refs (canonical_index (length map) map)) given
+
+pub plan_key-requires-clause-named : goal.plan_key-requires-clause-named
+plan_key-requires-clause-named c =
+    let plan = c.args.plan.now in
+    let key = canonical_same c.in_ok-start.start c.len.result plan.map.items c.as_slice.result.now c.args.group.now.types c.as_slice-2.result.now c.in_ok-types.types c.in_ok-start.ensures (c.as_slice.ensures.len ∙ sym c.len.ensures) c.as_slice.ensures.value c.as_slice-2.ensures c.in_ok-types.ensures in
+    subst (AreNamed (made_by (c.args.entries.now ++ plan.added.items))) (sym key) c.requires.named
+
+pub plan_key-requires-clause-kinds : goal.plan_key-requires-clause-kinds
+plan_key-requires-clause-kinds c =
+    let plan = c.args.plan.now in
+    let key = canonical_same c.in_ok-start.start c.len.result plan.map.items c.as_slice.result.now c.args.group.now.types c.as_slice-2.result.now c.in_ok-types.types c.in_ok-start.ensures (c.as_slice.ensures.len ∙ sym c.len.ensures) c.as_slice.ensures.value c.as_slice-2.ensures c.in_ok-types.ensures in
+    subst (KeyNamesTypes (made_by (c.args.entries.now ++ plan.added.items))) (sym key) c.requires.kinds
+
+on_ok_map : {A E P Q : Type 0} (result : Result A E) → (P → Q) → OnOk result P → OnOk result Q
+on_ok_map (Ok x) f p = f p
+on_ok_map (Err e) f p = tt
+
+pub returns-clause-ok : goal.returns-clause-ok
+returns-clause-ok c =
+    let plan = c.args.plan.now in
+    let key = canonical_same c.in_ok-start.start c.len.result plan.map.items c.as_slice.result.now c.args.group.now.types c.as_slice-2.result.now c.in_ok-types.types c.in_ok-start.ensures (c.as_slice.ensures.len ∙ sym c.len.ensures) c.as_slice.ensures.value c.as_slice-2.ensures c.in_ok-types.ensures in
+    on_ok_map c.plan_key.result
+    (λ is. ap (plan_key (plan_of c.args.entries.now plan)) (sym key) ∙ is)
+    c.plan_key.ensures.ok
+
+pub returns-clause-one : goal.returns-clause-one
+returns-clause-one c =
+    let plan = c.args.plan.now in
+    let key = canonical_same c.in_ok-start.start c.len.result plan.map.items c.as_slice.result.now c.args.group.now.types c.as_slice-2.result.now c.in_ok-types.types c.in_ok-start.ensures (c.as_slice.ensures.len ∙ sym c.len.ensures) c.as_slice.ensures.value c.as_slice-2.ensures c.in_ok-types.ensures in
+    on_ok_map c.plan_key.result (λ one. subst (PlansOne c.args.entries.now plan c.plan_key.new.plan) key one) c.plan_key.ensures.one

@@ -1,0 +1,351 @@
+//! Plans of registrations: which groups are new, with their numbers and indices, before anything is changed.
+//! What stands and what was planned before are searched as one list.
+
+ghost use Rattle.std.specs.Prelude.{◌≡◌, ◌+◌, List, ◌++◌, ◌∷◌, [], length, map, false, Some, None, IfOk, OnOk, ◌==◌};
+ghost use Rattle.std.specs.List.{find, list_any};
+ghost use Rattle.std.specs.Option.{option_copied};
+ghost use Rattle.wt_env.specs.Equality.{rec_group_eq};
+ghost use Rattle.wt_tree.specs.Canonical.{canonical_index};
+ghost use Rattle.wt_tree.specs.MapRefs.{map_group_refs as group_over};
+ghost use Rattle.wt_model.specs.Indices.{used, is_used as is_used_number, assign_shared_type_indices as free_indices_of, locate, closed_tree};
+ghost use Rattle.wt_model.specs.Describe.{describe};
+ghost use Rattle.wt_keys.specs.Entries.{made_of, made_by};
+ghost use Rattle.wt_keys.specs.Keys.{Names, named_at, KeyNamesTypes, AreKeys, IsNewKey, own_shown};
+ghost use Rattle.wt_model.specs.Plan.{Occurs, plan_key as plan_key_of, plan_group as plan_group_of, plan_groups as plan_groups_of};
+ghost use Rattle.wt_plan.specs.Planned.{plan_of, AreNamed, AreNewBelow, PlansOne};
+ghost use Rattle.wt_keys.specs.Keys.{AreShown};
+ghost use Rattle.wt_rules.specs.Rules.{AreModuleTypes, first_broken};
+ghost use Rattle.wt_tree.specs.ModuleTree.{module_trees};
+
+use std::alloc::Global;
+use wt_env::memory::OutOfMemory;
+use wt_env::seq::Seq;
+use wt_env::types::{EngineOrModuleTypeIndex, VMSharedTypeIndex, WasmRecGroup, WasmSubType};
+use wt_keys::entry::RecGroupEntry;
+use wt_keys::search::{find_group, is_used, place_of};
+use wt_model::ever::EverRegistered;
+use wt_tree::map_refs::{IndexChange, canonical_group, map_group_refs};
+use wt_tree::refs::leaving_refs;
+
+/// What a registration of groups comes to, before any limit is tested.
+#[derive(Debug, Drop)]
+pub struct Plan {
+    /// The groups that are new, in order.
+    pub added: Vec<RecGroupEntry>,
+    /// How much was ever registered, with these.
+    pub given: EverRegistered,
+    /// The registration number of each group that occurs, in order.
+    pub numbers: Vec<u64>,
+    /// The index of each type so far.
+    pub map: Vec<VMSharedTypeIndex>,
+}
+
+impl Plan {
+    /// A plan of nothing, where so much was registered.
+    pub fn new(alloc: Global, given: EverRegistered) -> Plan
+        ensures added { result.added.items ≡ [] }
+        ensures given { result.given ≡ given }
+        ensures numbers { result.numbers.items ≡ [] }
+        ensures map { result.map.items ≡ [] }
+    {
+        Plan {
+            added: Vec::new(alloc),
+            given,
+            numbers: Vec::new(alloc),
+            map: Vec::new(alloc),
+        }
+    }
+}
+
+/// The entry that has this key.
+fn find_planned<'a>(
+    entries: &'a [RecGroupEntry],
+    added: &'a [RecGroupEntry],
+    key: &WasmRecGroup,
+) -> Option<&'a RecGroupEntry>
+    ensures { option_copied result ≡ find (λ entry. rec_group_eq entry.group key.now) (entries.now ++ added.now) }
+{
+    match find_group(entries, key) {
+        Some(entry) => Some(entry),
+        None => find_group(added, key),
+    }
+}
+
+/// Whether one of these indices has these bits.
+fn is_taken(taken: &[VMSharedTypeIndex], candidate: u32) -> bool
+    ensures { result ≡ list_any (λ i. i.0 == candidate) taken.now }
+{
+    taken.iter().any(|index| index.bits() == candidate)
+}
+
+/// Whether an index is used by what stands, by what was planned, or by what was taken.
+fn is_planned(
+    entries: &[RecGroupEntry],
+    added: &[RecGroupEntry],
+    taken: &[VMSharedTypeIndex],
+    candidate: u32,
+) -> bool
+    ensures { result ≡ is_used_number (map (λ i. i.0) taken.now ++ used (made_by (entries.now ++ added.now))) candidate }
+{
+    if is_taken(taken, candidate) {
+        return true;
+    }
+    is_used(entries, candidate) || is_used(added, candidate)
+}
+
+/// The so many smallest indices that are free, in order.
+fn assign_shared_type_indices(
+    alloc: Global,
+    entries: &[RecGroupEntry],
+    added: &[RecGroupEntry],
+    count: usize,
+) -> Result<Seq<VMSharedTypeIndex>, OutOfMemory>
+    ensures { IfOk result (λ indices. indices ≡ free_indices_of count (used (made_by (entries.now ++ added.now)))) }
+{
+    let mut taken = Seq::new(alloc);
+    let mut candidate: u32 = 0;
+    while taken.len() < count {
+        if is_planned(entries, added, taken.as_slice(), candidate) {
+            candidate = candidate.checked_add(1).ok_or(OutOfMemory)?;
+        } else {
+            taken.push(VMSharedTypeIndex::new(candidate))?;
+        }
+    }
+    Ok(taken)
+}
+
+/// The registration number and place of the type that has this index.
+fn locate_in(
+    entries: &[RecGroupEntry],
+    index: VMSharedTypeIndex,
+) -> Result<Option<(u64, u32)>, OutOfMemory>
+    ensures { IfOk result (λ at. at ≡ locate (made_by entries.now) index) }
+{
+    for entry in entries {
+        if let Some(place) = place_of(entry.indices.as_slice(), index) {
+            return match u32::try_from(place) {
+                Ok(place) => Ok(Some((entry.number, place))),
+                Err(_) => Err(OutOfMemory),
+            };
+        }
+    }
+    Ok(None)
+}
+
+/// The registration number and place that a reference of a key names.
+fn named_planned(
+    entries: &[RecGroupEntry],
+    added: &[RecGroupEntry],
+    reference: &EngineOrModuleTypeIndex,
+) -> Result<Option<(u64, u32)>, OutOfMemory>
+    ensures { IfOk result (λ at. at ≡ named_at (made_by (entries.now ++ added.now)) reference.now) }
+{
+    let EngineOrModuleTypeIndex::Engine(index) = reference else {
+        return Ok(None);
+    };
+    match locate_in(entries, *index)? {
+        Some(at) => Ok(Some(at)),
+        None => locate_in(added, *index),
+    }
+}
+
+/// What the references of a key name, in order; each names a registered or planned type.
+fn outer_of(
+    alloc: Global,
+    entries: &[RecGroupEntry],
+    added: &[RecGroupEntry],
+    types: &[WasmSubType],
+) -> Result<Seq<(u64, u32)>, OutOfMemory>
+    requires { AreNamed (made_by (entries.now ++ added.now)) types.now }
+    ensures { IfOk result (λ outer. Names (made_by (entries.now ++ added.now)) types.now outer) }
+{
+    let refs = leaving_refs(alloc, types)?;
+    let mut outer = Seq::new(alloc);
+    for reference in refs.as_slice() {
+        if let Some(at) = named_planned(entries, added, reference)? {
+            outer.push(at)?;
+        }
+    }
+    Ok(outer)
+}
+
+/// The change of a key's references to its own members into their indices.
+#[derive(Drop)]
+struct OwnShown<'a> {
+    indices: &'a [VMSharedTypeIndex],
+}
+
+impl<'a> IndexChange for OwnShown<'a> {
+    ghost changed = { λ own. own_shown own.indices.now };
+
+    fn change(&self, index: EngineOrModuleTypeIndex) -> EngineOrModuleTypeIndex {
+        match index {
+            EngineOrModuleTypeIndex::RecGroup(place) => match self.indices.get(place as usize) {
+                Some(own) => EngineOrModuleTypeIndex::Engine(*own),
+                None => index,
+            },
+            _ => index,
+        }
+    }
+}
+
+/// The members of a key with every reference as an index.
+fn shown_members(
+    alloc: Global,
+    indices: &[VMSharedTypeIndex],
+    types: &[WasmSubType],
+) -> Result<Seq<WasmSubType>, OutOfMemory>
+    ensures { IfOk result (λ members. members ≡ group_over (own_shown indices.now) types.now) }
+{
+    map_group_refs(alloc, &OwnShown { indices }, types)
+}
+
+/// The entry of a group whose key no entry has, with the next number and the smallest free indices.
+fn new_entry(
+    alloc: Global,
+    entries: &[RecGroupEntry],
+    added: &[RecGroupEntry],
+    numbers: u64,
+    key: WasmRecGroup,
+) -> Result<RecGroupEntry, OutOfMemory>
+    requires keys { AreKeys (entries.now ++ added.now) numbers }
+    requires named { AreNamed (made_by (entries.now ++ added.now)) key.types }
+    requires kinds { KeyNamesTypes (made_by (entries.now ++ added.now)) key.types }
+    requires new { find (λ entry. rec_group_eq entry.group key) (entries.now ++ added.now) ≡ None }
+    ensures key { IfOk result (λ entry. IsNewKey (entries.now ++ added.now) numbers entry) }
+    ensures made { IfOk result (λ entry. made_of entry ≡ record {
+      number = numbers + 1;
+      description = describe (made_by (entries.now ++ added.now)) key.types;
+      indices = free_indices_of (length key.types) (used (made_by (entries.now ++ added.now)));
+    }) }
+    ensures group { IfOk result (λ entry. entry.group ≡ key) }
+    ensures shown { IfOk result (λ entry. entry.shown ≡ group_over (own_shown entry.indices) entry.group.types) }
+{
+    let number = numbers.checked_add(1).ok_or(OutOfMemory)?;
+    let outer = outer_of(alloc, entries, added, key.types.as_slice())?;
+    let indices = assign_shared_type_indices(alloc, entries, added, key.types.len())?;
+    let shown = shown_members(alloc, indices.as_slice(), key.types.as_slice())?;
+    Ok(RecGroupEntry {
+        number,
+        group: key,
+        shown,
+        outer,
+        indices,
+    })
+}
+
+/// One more group that was ever registered, with so many types and references.
+fn one_more(
+    given: EverRegistered,
+    types: usize,
+    references: usize,
+) -> Result<EverRegistered, OutOfMemory>
+    ensures { IfOk result (λ more. more ≡ record { numbers = given.numbers + 1; types = given.types + types; references = given.references + references }) }
+{
+    Ok(EverRegistered {
+        numbers: given.numbers.checked_add(1).ok_or(OutOfMemory)?,
+        types: given.types.checked_add(types as u64).ok_or(OutOfMemory)?,
+        references: given
+            .references
+            .checked_add(references as u64)
+            .ok_or(OutOfMemory)?,
+    })
+}
+
+/// One more occurrence of a group.
+fn add_occurrence(
+    numbers: &mut Vec<u64>,
+    map: &mut Vec<VMSharedTypeIndex>,
+    entry: &RecGroupEntry,
+) -> Result<(), OutOfMemory>
+    ensures numbers { OnOk result (numbers.new.items ≡ numbers.old.items ++ entry.now.number ∷ []) }
+    ensures map { OnOk result (map.new.items ≡ map.old.items ++ entry.now.indices) }
+{
+    numbers.push(entry.number)?;
+    map.extend_from_slice(entry.indices.as_slice())?;
+    Ok(())
+}
+
+/// Plans one more group, whose references that leave it are indices of what stands or was planned, and name types of
+/// the kinds that they say.
+pub fn plan_key(
+    alloc: Global,
+    entries: &[RecGroupEntry],
+    plan: &mut Plan,
+    key: WasmRecGroup,
+) -> Result<(), OutOfMemory>
+    requires keys { AreKeys (entries.now ++ plan.old.added.items) plan.old.given.numbers }
+    requires named { AreNamed (made_by (entries.now ++ plan.old.added.items)) key.types }
+    requires kinds { KeyNamesTypes (made_by (entries.now ++ plan.old.added.items)) key.types }
+    ensures ok { OnOk result (plan_key_of (plan_of entries.now plan.old) key.types ≡ plan_of entries.now plan.new) }
+    ensures keys { OnOk result (AreKeys (entries.now ++ plan.new.added.items) plan.new.given.numbers) }
+    ensures one { OnOk result (PlansOne entries.now plan.old plan.new key.types) }
+{
+    if let Some(entry) = find_planned(entries, plan.added.as_slice(), &key) {
+        return add_occurrence(&mut plan.numbers, &mut plan.map, entry);
+    }
+    let entry = new_entry(
+        alloc,
+        entries,
+        plan.added.as_slice(),
+        plan.given.numbers,
+        key,
+    )?;
+    plan.given = one_more(plan.given, entry.indices.len(), entry.outer.len())?;
+    add_occurrence(&mut plan.numbers, &mut plan.map, &entry)?;
+    plan.added.push(entry)?;
+    Ok(())
+}
+
+/// A count of types as a number of 32 bits.
+fn to_u32(count: usize) -> Result<u32, OutOfMemory>
+    ensures { IfOk result (λ number. number ≡ count) }
+{
+    match u32::try_from(count) {
+        Ok(number) => Ok(number),
+        Err(_) => Err(OutOfMemory),
+    }
+}
+
+/// Plans one more group of a module, whose types count from behind those so far.
+fn plan_group(
+    alloc: Global,
+    entries: &[RecGroupEntry],
+    plan: &mut Plan,
+    group: &WasmRecGroup,
+) -> Result<(), OutOfMemory>
+    requires keys { AreKeys (entries.now ++ plan.old.added.items) plan.old.given.numbers }
+    requires named { AreNamed (made_by (entries.now ++ plan.old.added.items)) (group_over (canonical_index (length plan.old.map.items) plan.old.map.items) group.now.types) }
+    requires kinds { KeyNamesTypes (made_by (entries.now ++ plan.old.added.items)) (group_over (canonical_index (length plan.old.map.items) plan.old.map.items) group.now.types) }
+    ensures ok { OnOk result (plan_group_of (plan_of entries.now plan.old) group.now ≡ plan_of entries.now plan.new) }
+    ensures keys { OnOk result (AreKeys (entries.now ++ plan.new.added.items) plan.new.given.numbers) }
+    ensures one { OnOk result (PlansOne entries.now plan.old plan.new (group_over (canonical_index (length plan.old.map.items) plan.old.map.items) group.now.types)) }
+{
+    let start = to_u32(plan.map.len())?;
+    let types = canonical_group(alloc, start, plan.map.as_slice(), group.types.as_slice())?;
+    plan_key(alloc, entries, plan, WasmRecGroup { types })
+}
+
+/// Plans the groups of a module, which keeps its rules.
+pub fn plan_groups(
+    alloc: Global,
+    entries: &[RecGroupEntry],
+    plan: &mut Plan,
+    groups: &[WasmRecGroup],
+) -> Result<(), OutOfMemory>
+    requires empty { (plan.old.added.items ≡ []) × (plan.old.numbers.items ≡ []) × (plan.old.map.items ≡ []) }
+    requires keys { AreKeys entries.now plan.old.given.numbers }
+    requires named { AreModuleTypes groups.now }
+    requires rules { first_broken groups.now ≡ None }
+    ensures ok { OnOk result (plan_groups_of (plan_of entries.now plan.old) groups.now ≡ plan_of entries.now plan.new) }
+    ensures keys { OnOk result (AreKeys (entries.now ++ plan.new.added.items) plan.new.given.numbers) }
+    ensures shown { OnOk result (AreShown plan.new.added.items) }
+    ensures below { OnOk result (AreNewBelow entries.now plan.new.added.items) }
+    ensures occurs { OnOk result (Occurs (plan_of entries.now plan.new)) }
+    ensures named { OnOk result (map (closed_tree (made_by (entries.now ++ plan.new.added.items))) plan.new.map.items ≡ map Some (module_trees [] groups.now)) }
+{
+    for group in groups {
+        plan_group(alloc, entries, plan, group)?;
+    }
+    Ok(())
+}

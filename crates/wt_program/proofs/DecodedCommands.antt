@@ -1,0 +1,96 @@
+-- What is decoded from a short text are commands that a session can run.
+use Rattle.std.proofs.Common.{Vec, Global, ◌≡◌, ℕ, suc, ◌+◌, ◌==◌, ◌<◌, ◌≤◌, ◌^◌, inl, inr, List, length, Option, Some, None, option_map, option_and_then, Result, Ok, Err, sym, subst, arith}
+use Rattle.std.specs.Prelude.{⊤, IfSome, IfOk, bytes_eq, codes}
+use Rattle.std.specs.Option.{option_map_or}
+use Rattle.serde_json.specs.Data.{Data, Items, no_items, item}
+use Rattle.serde_json.specs.Find.{get, as_str, as_array}
+use Rattle.serde_json.specs.Read.{read}
+use Rattle.wt_env.specs.DecodeGroups.{decode_groups}
+use Rattle.wt_env.specs.declared.types.ModuleTypes.{ModuleTypes}
+use Rattle.wt_registry.specs.Rules.{total_members, AreCountable, AreModuleTypes}
+use Rattle.wt_session.specs.declared.command.Command.{Command}
+use Rattle.wt_session.specs.declared.command.Command.TheVariants as command
+use Rattle.wt_session.specs.World.{IsCommand, AreCommands}
+use Rattle.wt_program.specs.declared.decode.DecodeError.{DecodeError}
+use Rattle.wt_program.specs.Decode.{own_key_count, decode_sub, decode_by, by_and_number, decode_live, type_from, decode_type, module_from, decode_module, decode_clone, decode_root, decode_drop, decode_sweep, decode_release, command_called, decode_command, put_first, decode_commands, decode}
+use Rattle.wt_program.specs.ItemCount.{item_count, items_count}
+use Rattle.wt_program.proofs.Decoding.{any_value, mapped, chained, either}
+use Rattle.wt_program.proofs.DecodedItems.{list_items, value_items, decoded_items}
+use Rattle.wt_program.proofs.ItemCount.{item_count_read}
+use Rattle.wt_program.proofs.DecodedModules.{decoded_module}
+
+-- ---- one command
+
+-- decoded groups, where the value has few items
+countable : (o : Option ModuleTypes) (n : ℕ) → n < 2 ^ 32 → IfSome o (λ types. length types.groups + total_members types.groups ≤ n) → IfSome o (λ types. AreModuleTypes types.groups)
+    → IfSome o (λ types. AreCountable types.groups × AreModuleTypes types.groups)
+countable None n short few own = tt
+countable (Some types) n short few own = (record { few_groups = omega (arith, few, short); few_members = omega (arith, few, short) }, own)
+
+groups_fit : (d : Data) → item_count d < 2 ^ 32 → IfSome (decode_groups d) (λ types. AreCountable types.groups × AreModuleTypes types.groups)
+groups_fit d short = countable (decode_groups d) (item_count d) short (decoded_items d) (decoded_module d)
+
+-- a command that has no module
+plain : {A : Type 0} (f : A → Command) → ((a : A) → IsCommand (f a)) → (o : Option A) → IfSome (option_map f o) IsCommand
+plain f is None = tt
+plain f is (Some a) = is a
+
+live_fits : (d : Data) → IfSome (decode_live d) IsCommand
+live_fits d = either IsCommand (own_key_count d == 1) _ None (plain command.Live (λ by. tt) (decode_by d)) tt
+
+type_fits : (d : Data) → IfSome (decode_type d) IsCommand
+type_fits d =
+    either IsCommand (own_key_count d == 2) _ None
+    (chained (λ by. ⊤) IsCommand (λ by. type_from by d) (λ by any. plain (command.HostType by) (λ sub. tt) (option_and_then decode_sub (get (codes "sub") d))) (decode_by d) (any_value (decode_by d))) tt
+
+module_from_fits : (by : ℕ) (d : Data) → item_count d < 2 ^ 32 → IfSome (module_from by d) IsCommand
+module_from_fits by d short =
+    mapped (λ types. AreCountable types.groups × AreModuleTypes types.groups) IsCommand (command.Module by) (λ types fit. fit) (option_and_then decode_groups (get (codes "groups") d))
+    (chained (λ found. item_count found ≤ item_count d) (λ types. AreCountable types.groups × AreModuleTypes types.groups) decode_groups (λ found few. groups_fit found (omega (arith, few, short))) (get (codes "groups") d)
+    (value_items (codes "groups") d))
+
+module_fits : (d : Data) → item_count d < 2 ^ 32 → IfSome (decode_module d) IsCommand
+module_fits d short =
+    either IsCommand (own_key_count d == 2) _ None (chained (λ by. ⊤) IsCommand (λ by. module_from by d) (λ by any. module_from_fits by d short) (decode_by d) (any_value (decode_by d))) tt
+
+called_fits : (word : List ℕ) (d : Data) → item_count d < 2 ^ 32 → IfSome (command_called word d) IsCommand
+called_fits word d short =
+    either IsCommand (bytes_eq word (codes "live")) (decode_live d) _ (live_fits d) (
+    either IsCommand (bytes_eq word (codes "type")) (decode_type d) _ (type_fits d) (
+    either IsCommand (bytes_eq word (codes "module")) (decode_module d) _ (module_fits d short) (
+    either IsCommand (bytes_eq word (codes "clone")) (decode_clone d) _ (plain (λ numbers. command.Clone numbers.0 numbers.1) (λ numbers. tt) (by_and_number (codes "handle") d)) (
+    either IsCommand (bytes_eq word (codes "root")) (decode_root d) _ (plain (λ numbers. command.Root numbers.0 numbers.1) (λ numbers. tt) (by_and_number (codes "index") d)) (
+    either IsCommand (bytes_eq word (codes "drop")) (decode_drop d) _ (plain (λ numbers. command.Drop numbers.0 numbers.1) (λ numbers. tt) (by_and_number (codes "handle") d)) (
+    either IsCommand (bytes_eq word (codes "sweep")) (decode_sweep d) _ (plain (λ numbers. command.Sweep numbers.0 numbers.1) (λ numbers. tt) (by_and_number (codes "handle") d)) (
+    either IsCommand (bytes_eq word (codes "release")) (decode_release d) None (plain (λ numbers. command.Release numbers.0 numbers.1) (λ numbers. tt) (by_and_number (codes "handle") d)) tt)))))))
+
+command_fits : (d : Data) → item_count d < 2 ^ 32 → IfSome (decode_command d) IsCommand
+command_fits d short =
+    let word = option_and_then as_str (get (codes "do") d) in
+    chained (λ word. ⊤) IsCommand (λ word. command_called word d) (λ word any. called_fits word d short) word (any_value word)
+
+-- ---- a list of them
+
+first_fits : (place : ℕ) (o : Option Command) (rest : Result (List Command) ℕ) → IfSome o IsCommand → IfOk rest AreCommands → IfOk (put_first place o rest) AreCommands
+first_fits place None rest this later = tt
+first_fits place (Some first) (Ok others) this later = λ other among. elim among [ inl same ↦ subst IsCommand (sym same) this | inr after ↦ later other after ]
+first_fits place (Some first) (Err bad) this later = tt
+
+commands_fit : (place : ℕ) (ds : Items) → items_count ds < 2 ^ 32 → IfOk (decode_commands place ds) AreCommands
+commands_fit place no_items short = λ other among. absurd among
+commands_fit place (item d ds) short =
+    first_fits place (decode_command d) (decode_commands (suc place) ds) (command_fits d (omega arith)) (commands_fit (suc place) ds (omega arith))
+
+all_fit : (o : Option Items) (n : ℕ) → n < 2 ^ 32 → IfSome o (λ ds. items_count ds ≤ n) → IfOk (option_map_or (decode_commands 1) o (Err 0)) AreCommands
+all_fit None n short few = tt
+all_fit (Some ds) n short few = commands_fit 1 ds (omega (arith, few, short))
+
+pub decoded_commands : (bytes : List ℕ) (d : Data) (commands : List Command) → read bytes ≡ Some d → length bytes < 2 ^ 32 → decode d ≡ Ok commands → AreCommands commands
+decoded_commands bytes d commands is_read short is =
+    subst (λ outcome. IfOk outcome AreCommands) is (all_fit (as_array d) (item_count d) (omega (arith, item_count_read bytes d is_read, short)) (list_items d))
+
+-- the same of what the decoder answers
+pub commands_of_text : (result : Result (Vec Command Global) DecodeError) (d : Data) → IfOk result (λ commands. decode d ≡ Ok commands.items)
+    → IfOk result (λ commands. (bytes : List ℕ) → read bytes ≡ Some d → length bytes < 2 ^ 32 → AreCommands commands.items)
+commands_of_text (Ok commands) d is = λ bytes is_read short. decoded_commands bytes d commands.items is_read short is
+commands_of_text (Err error) d is = tt

@@ -1,0 +1,150 @@
+-- what passes no limit has room, and keeps what is kept
+use Rattle.std.proofs.Common.{◌≡◌, ℕ, ◌+◌, ◌<◌, ◌≤◌, ◌^◌, ◌⊎◌, inl, inr, false, Option, List, ◌++◌, length, map, option_map, refl, sym, ap, subst, ◌∙◌, arith}
+use Rattle.wt_env.specs.Among.{Among}
+use Rattle.wt_env.specs.Limits.{EngineParts}
+use Rattle.wt_env.proofs.lists.Mapped.{among_mapped}
+use Rattle.wt_env.proofs.lists.Members.{among_either}
+use Rattle.wt_model.specs.declared.refusal.Full.{Full}
+use Rattle.wt_model.specs.declared.refusal.BuildRefusal.TheVariants as refusal
+use Rattle.wt_model.specs.Holds.{held_at, hold_each}
+use Rattle.wt_model.specs.Limits.{passed_limit}
+use Rattle.wt_model.specs.Registration.{new_holds, stop_waiting_each}
+use Rattle.wt_model.specs.Changes.{HoldChanges}
+use Rattle.wt_model.specs.Registered.{Registry}
+use Rattle.wt_model.proofs.plan.StopWaiting.{held_at-stop_waiting_each}
+use Rattle.wt_model.proofs.plan.CarriedOut.{new_sized, new-calm}
+use Rattle.wt_model.proofs.plan.Gaining.{carried-changes}
+use Rattle.wt_model.proofs.plan.HoldsWanted.{held_at-with_new}
+use Rattle.wt_keys.specs.declared.entry.RecGroupEntry.{RecGroupEntry}
+use Rattle.wt_keys.specs.Entries.{made_by}
+use Rattle.wt_plan.specs.declared.plan.Plan.{Plan as PlanFields}
+use Rattle.wt_plan.specs.Planned.{plan_of}
+use Rattle.wt_holds.specs.declared.hold_counts.HoldCounts.{HoldCounts}
+use Rattle.wt_holds.specs.declared.inner.TypeRegistryInner.{TypeRegistryInner}
+use Rattle.wt_holds.specs.Counts.{standing_of, standings_of}
+use Rattle.wt_holds.specs.Kept.{AreKept, registry_at, registry_of}
+use Rattle.wt_holds.proofs.Counted.{HavePlaces, has_place}
+use Rattle.wt_registry.proofs.KeptGroups.{kept-same, room-left, can-carry, carried-at, kept-carried}
+use Rattle.wt_registry.proofs.enter.check_and_commit.Goals as goal
+
+-- what was found, by the lists that were read, is the first limit that would be passed
+found_is : (engine : EngineParts) (groups : TypeRegistryInner) (read : List RecGroupEntry) (told : List HoldCounts) (plan : PlanFields) (party : ℕ) (found : Option Full) → read ≡ groups.entries.items → told ≡ groups.counts.items
+    → found ≡ passed_limit (registry_of engine read plan.given (standings_of told)) party (plan_of read plan) → passed_limit (registry_at engine groups) party (plan_of groups.entries.items plan) ≡ found
+found_is engine groups read told plan party found same equal is =
+    (λ i. passed_limit (registry_of engine ((sym same) i) plan.given (standings_of ((sym equal) i))) party (plan_of ((sym same) i) plan)) ∙ sym is
+
+places : (engine : EngineParts) (groups : TypeRegistryInner) (party : ℕ) → AreKept engine groups → party < engine.limits.parties → HavePlaces party groups.counts.items
+places engine groups party kept within = has_place engine groups.counts.items party kept.holds.counted within
+
+-- the rows stand for what keeps the new groups
+rows_are : (engine : EngineParts) (parties : ℕ) (rows : List HoldCounts) (added read : List RecGroupEntry) → parties ≡ engine.limits.parties → read ≡ added
+    → ((e : EngineParts) → e.limits.parties ≡ parties → standings_of rows ≡ map (new_holds e) (made_by read)) → standings_of rows ≡ map (new_holds engine) (made_by added)
+rows_are engine parties rows added read same equal are = are engine (sym same) ∙ ap (λ es. map (new_holds engine) (made_by es)) equal
+
+calm : (engine : EngineParts) (rows : List HoldCounts) (added : List RecGroupEntry) → standings_of rows ≡ map (new_holds engine) (made_by added) → (count : HoldCounts) → Among count rows → count.waits ≡ false
+calm engine rows added are count at = new-calm engine (made_by added) (standing_of count) (subst (Among (standing_of count)) are (among_mapped standing_of rows count at))
+
+all_places : (engine : EngineParts) (counts stood rows : List HoldCounts) (added : List RecGroupEntry) (party : ℕ) → party < engine.limits.parties → stood ≡ counts → HavePlaces party counts
+    → standings_of rows ≡ map (new_holds engine) (made_by added) → HavePlaces party (stood ++ rows)
+all_places engine counts stood rows added party within same old are count at = by (among_either stood rows count at)
+  where
+    by : Among count stood ⊎ Among count rows → party < length count.holds.items
+    by (inl there) = old count (subst (Among count) same there)
+    by (inr new) =
+        let long = (new_sized engine (made_by added) (standing_of count) (subst (Among (standing_of count)) are (among_mapped standing_of rows count new))).parties in
+        omega (arith, long, within)
+
+held_then : (engine : EngineParts) (counts stood rows : List HoldCounts) (added : List RecGroupEntry) (party number : ℕ) → stood ≡ counts → standings_of rows ≡ map (new_holds engine) (made_by added)
+    → held_at (stop_waiting_each (made_by added) (standings_of stood) ++ standings_of rows) party number ≡ held_at (standings_of counts) party number
+held_then engine counts stood rows added party number same are =
+    (λ i. held_at (stop_waiting_each (made_by added) (standings_of (same i)) ++ are i) party number)
+    ∙ held_at-with_new engine (stop_waiting_each (made_by added) (standings_of counts)) (made_by added) party number
+    ∙ held_at-stop_waiting_each (made_by added) (standings_of counts) party number
+
+pub passed_limit-requires : goal.passed_limit-requires
+passed_limit-requires c = record {
+  parties = subst (HavePlaces c.args.party) (sym c.as_slice-2.ensures.value) (places c.args.engine.now c.args.groups.now c.args.party c.requires.kept c.requires.party);
+}
+
+pub returns-in-Some-clause-refused : goal.returns-in-Some-clause-refused
+returns-in-Some-clause-refused c =
+    inr (ap (option_map refusal.Full)
+    (found_is c.args.engine.now c.args.groups.now c.as_slice.result.now c.as_slice-2.result.now c.args.plan c.args.party c.in_ok-found.found c.as_slice.ensures.value c.as_slice-2.ensures.value c.in_ok-found.ensures
+    ∙ c.in-Some.is))
+
+pub returns-in_err-reserve_groups-clause-kept : goal.returns-in_err-reserve_groups-clause-kept
+returns-in_err-reserve_groups-clause-kept c =
+    kept-same c.args.engine.now c.args.groups.now c.reserve_groups.new.groups c.requires.kept c.reserve_groups.ensures.entries c.reserve_groups.ensures.counts c.reserve_groups.ensures.marks c.reserve_groups.ensures.given
+
+pub insert_entries-requires-clause-calm : goal.insert_entries-requires-clause-calm
+insert_entries-requires-clause-calm c =
+    let engine = c.args.engine.now in
+    let added = c.args.plan.added.items in
+    let are = rows_are engine c.limits.result.parties c.in_ok-rows.rows.items added c.as_slice-3.result.now (ap (λ l. l.parties) c.limits.ensures.value) c.as_slice-3.ensures.value c.in_ok-rows.ensures.counts in
+    calm engine c.in_ok-rows.rows.items added are
+
+pub insert_entries-requires-clause-parties : goal.insert_entries-requires-clause-parties
+insert_entries-requires-clause-parties c =
+    let engine = c.args.engine.now in
+    let added = c.args.plan.added.items in
+    let are = rows_are engine c.limits.result.parties c.in_ok-rows.rows.items added c.as_slice-3.result.now (ap (λ l. l.parties) c.limits.ensures.value) c.as_slice-3.ensures.value c.in_ok-rows.ensures.counts in
+    all_places engine c.args.groups.now.counts.items c.reserve_groups.new.groups.counts.items c.in_ok-rows.rows.items added c.args.party c.requires.party c.reserve_groups.ensures.counts
+    (places engine c.args.groups.now c.args.party c.requires.kept c.requires.party) are
+
+pub insert_entries-requires-clause-room : goal.insert_entries-requires-clause-room
+insert_entries-requires-clause-room c = λ number.
+    let engine = c.args.engine.now in
+    let groups = c.args.groups.now in
+    let added = c.args.plan.added.items in
+    let party = c.args.party in
+    let counts = groups.counts.items in
+    let are = rows_are engine c.limits.result.parties c.in_ok-rows.rows.items added c.as_slice-3.result.now (ap (λ l. l.parties) c.limits.ensures.value) c.as_slice-3.ensures.value c.in_ok-rows.ensures.counts in
+    let none = found_is engine groups c.as_slice.result.now c.as_slice-2.result.now c.args.plan party c.in_ok-found.found c.as_slice.ensures.value c.as_slice-2.ensures.value c.in_ok-found.ensures ∙ c.in_default.is in
+    let room = room-left (registry_at engine groups) party (plan_of groups.entries.items c.args.plan) c.requires.kept.holds.counted none number in
+    let held = held_then engine counts c.reserve_groups.new.groups.counts.items c.in_ok-rows.rows.items added party number c.reserve_groups.ensures.counts are in
+    let bound : c.limits.result.holds ≡ engine.limits.holds = ap (λ l. l.holds) c.limits.ensures.value in
+    let greatest : c.limits.result.holds ≤ 2 ^ 30 = (c.limits.ensures.valid).holds in
+    omega (arith, room, held, bound, greatest)
+
+pub returns-clause-accepted : goal.returns-clause-accepted
+returns-clause-accepted c =
+    found_is c.args.engine.now c.args.groups.now c.as_slice.result.now c.as_slice-2.result.now c.args.plan c.args.party c.in_ok-found.found c.as_slice.ensures.value c.as_slice-2.ensures.value c.in_ok-found.ensures
+    ∙ c.in_default.is
+
+pub returns-clause-ok : goal.returns-clause-ok
+returns-clause-ok c =
+    let engine = c.args.engine.now in
+    let groups = c.args.groups.now in
+    let plan = c.args.plan in
+    let added = plan.added.items in
+    let are = rows_are engine c.limits.result.parties c.in_ok-rows.rows.items added c.as_slice-3.result.now (ap (λ l. l.parties) c.limits.ensures.value) c.as_slice-3.ensures.value c.in_ok-rows.ensures.counts in
+    let stood = c.reserve_groups.ensures.counts in
+    carried-at engine groups plan c.args.party c.requires.kept c.requires.party c.requires.keys c.requires.occurs (returns-clause-accepted c) c.insert_entries.new.groups
+    (c.insert_entries.ensures.entries ∙ ap (λ es. es ++ added) c.reserve_groups.ensures.entries)
+    c.insert_entries.ensures.given
+    (c.insert_entries.ensures.counts ∙ (λ i. hold_each c.args.party plan.numbers.items (stop_waiting_each (made_by added) (standings_of (stood i)) ++ are i)))
+
+pub returns-clause-kept : goal.returns-clause-kept
+returns-clause-kept c =
+    let engine = c.args.engine.now in
+    let groups = c.args.groups.now in
+    let plan = c.args.plan in
+    let added = plan.added.items in
+    let are = rows_are engine c.limits.result.parties c.in_ok-rows.rows.items added c.as_slice-3.result.now (ap (λ l. l.parties) c.limits.ensures.value) c.as_slice-3.ensures.value c.in_ok-rows.ensures.counts in
+    let stood = c.reserve_groups.ensures.counts in
+    kept-carried engine groups plan c.args.party c.requires.kept c.requires.party c.requires.keys c.requires.occurs (returns-clause-accepted c) c.insert_entries.new.groups
+    (c.insert_entries.ensures.entries ∙ ap (λ es. es ++ added) c.reserve_groups.ensures.entries)
+    c.insert_entries.ensures.given
+    (c.insert_entries.ensures.counts ∙ (λ i. hold_each c.args.party plan.numbers.items (stop_waiting_each (made_by added) (standings_of (stood i)) ++ are i)))
+    c.requires.shown c.requires.below
+    (c.insert_entries.ensures.marks ∙ ap (λ ms. length ms + length added) c.reserve_groups.ensures.marks)
+
+pub returns-clause-changes : goal.returns-clause-changes
+returns-clause-changes c =
+    let engine = c.args.engine.now in
+    let groups = c.args.groups.now in
+    let plan = c.args.plan in
+    subst (HoldChanges (registry_at engine groups) (registry_at engine c.insert_entries.new.groups) c.args.party) (sym c.insert_entries.ensures.numbers)
+    (subst (λ (new : Registry). HoldChanges (registry_at engine groups) new c.args.party plan.numbers.items) (returns-clause-ok c)
+    (carried-changes (registry_at engine groups) c.args.party (plan_of groups.entries.items plan) refl
+    (can-carry engine groups plan c.args.party c.requires.kept c.requires.party c.requires.keys c.requires.occurs (returns-clause-accepted c))))

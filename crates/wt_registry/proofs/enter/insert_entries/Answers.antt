@@ -1,0 +1,50 @@
+-- the new counts don't wait, so what is called are the others
+use Rattle.std.proofs.Common.{◌≡◌, ℕ, ◌<◌, false, List, ◌++◌, length, sym, ap, subst, ◌∙◌, arith}
+use Rattle.std.proofs.lemmas.List.{map-append}
+use Rattle.wt_holds.specs.declared.hold_counts.HoldCounts.{HoldCounts}
+use Rattle.wt_keys.specs.declared.entry.RecGroupEntry.{RecGroupEntry}
+use Rattle.wt_model.specs.Registered.{GroupHolds}
+use Rattle.wt_env.specs.Among.{Among}
+use Rattle.wt_model.specs.Holds.{held_at}
+use Rattle.wt_holds.specs.Counts.{standing_of, standings_of}
+use Rattle.wt_model.specs.Holds.{times, hold_each}
+use Rattle.wt_keys.specs.Entries.{made_by}
+use Rattle.wt_model.specs.Registration.{stop_waiting_each}
+use Rattle.wt_env.proofs.lists.Mapped.{among_map}
+use Rattle.wt_model.proofs.plan.StopWaiting.{stop_waiting_each-joined, holds-stop_waiting_each}
+use Rattle.wt_holds.proofs.Counted.{HavePlaces, places_stand, stand_places}
+use Rattle.wt_registry.proofs.enter.insert_entries.Goals as goal
+
+calm : (rows : List HoldCounts) → ((count : HoldCounts) → Among count rows → count.waits ≡ false) → (s : GroupHolds) → Among s (standings_of rows) → s.waits ≡ false
+calm rows each s at = let found = among_map standing_of rows s at in ap (λ (x : GroupHolds). x.waits) found.2 ∙ each found.0 found.1
+
+stood : (counts rows moved after : List HoldCounts) (added read : List RecGroupEntry) → moved ≡ counts ++ rows → read ≡ added → standings_of after ≡ stop_waiting_each (made_by read) (standings_of moved)
+    → ((count : HoldCounts) → Among count rows → count.waits ≡ false) → standings_of after ≡ stop_waiting_each (made_by added) (standings_of counts) ++ standings_of rows
+stood counts rows moved after added read moves same is quiet =
+    is
+    ∙ (λ i. stop_waiting_each (made_by (same i)) (standings_of (moves i)))
+    ∙ ap (stop_waiting_each (made_by added)) (map-append standing_of counts rows)
+    ∙ stop_waiting_each-joined (made_by added) (standings_of counts) (standings_of rows) (calm rows quiet)
+
+placed : (party : ℕ) (counts moved after : List HoldCounts) (read : List RecGroupEntry) → moved ≡ counts → standings_of after ≡ stop_waiting_each (made_by read) (standings_of moved) → HavePlaces party counts → HavePlaces party after
+placed party counts moved after read same is places =
+    let before = places_stand party moved (subst (HavePlaces party) (sym same) places) in
+    stand_places party after (λ s at. holds-stop_waiting_each (λ holds. party < length holds) (made_by read) (standings_of moved) before s (subst (Among s) is at))
+
+pub hold_each-requires-clause-parties : goal.hold_each-requires-clause-parties
+hold_each-requires-clause-parties c =
+    placed c.args.party (c.args.groups.now.counts.items ++ c.args.rows.items) c.move_all.new.items.items c.stop_waiting_each.new.counts.items c.as_slice.result.now c.move_all.ensures c.stop_waiting_each.ensures c.requires.parties
+
+pub hold_each-requires-clause-room : goal.hold_each-requires-clause-room
+hold_each-requires-clause-room c = λ number.
+    let counts = stood c.args.groups.now.counts.items c.args.rows.items c.move_all.new.items.items c.stop_waiting_each.new.counts.items c.args.plan.added.items c.as_slice.result.now c.move_all.ensures c.as_slice.ensures.value c.stop_waiting_each.ensures c.requires.calm in
+    let held = ap (λ standings. held_at standings c.args.party number) counts in
+    let more = ap (times number) c.as_slice-2.ensures.value in
+    let room = c.requires.room number in
+    omega (arith, held, more, room)
+
+pub returns-clause-counts : goal.returns-clause-counts
+returns-clause-counts c =
+    let counts = stood c.args.groups.now.counts.items c.args.rows.items c.move_all.new.items.items c.stop_waiting_each.new.counts.items c.args.plan.added.items c.as_slice.result.now c.move_all.ensures c.as_slice.ensures.value c.stop_waiting_each.ensures c.requires.calm in
+    let numbers = c.as_slice-2.ensures.value in
+    c.hold_each.ensures ∙ (λ i. hold_each c.args.party (numbers i) (counts i))

@@ -1,0 +1,6 @@
+pub mod ChangedKinds
+pub mod KeptRules
+pub mod KindLookup
+pub mod ModuleReferences
+pub mod Referring
+pub mod Functions

@@ -1,0 +1,202 @@
+-- A refused command changes nothing, and each command of a run is answered.
+use Rattle.std.proofs.Common.{◌≡◌, ◌≤◌, ℕ, nat_lt, zero, suc, ◌+◌, ◌<◌, ◌⊎◌, inl, inr, true, false, List, [], ◌∷◌, ◌++◌, length, map, take, get_or, slice_get, slice_set, Option, Some, None, Result, Ok, Err, IfOk, refl, sym, ap, subst, ◌∙◌, arith}
+use Rattle.std.proofs.lemmas.Bool.{false≢true}
+use Rattle.wt_env.specs.declared.types.VMSharedTypeIndex.{VMSharedTypeIndex}
+use Rattle.wt_env.specs.declared.limits.Limit.TheVariants.{Parties}
+use Rattle.wt_env.specs.declared.memory.OutOfMemory.{OutOfMemory}
+use Rattle.wt_tree.specs.Tree.{ClosedTree}
+use Rattle.wt_model.specs.declared.refusal.Full.{Full}
+use Rattle.wt_model.specs.declared.refusal.BuildRefusal.{BuildRefusal}
+use Rattle.wt_registry.specs.Registered.{RegisteredGroup, Registry}
+use Rattle.wt_registry.specs.Holds.{Hold, root, hold as held}
+use Rattle.wt_registry.specs.Indices.{closed_tree}
+use Rattle.wt_registry.specs.Holds.{Collection}
+use Rattle.wt_registry.specs.Registration.{register, register_groups}
+use Rattle.wt_registry.specs.Removal.{drop_hold}
+use Rattle.wt_registry.specs.Sound.{OneIndexPerTree}
+use Rattle.wt_session.specs.declared.command.Command.{Command}
+use Rattle.wt_session.specs.declared.command.Command.TheVariants as command
+use Rattle.wt_session.specs.declared.counts.ObjectCounts.{ObjectCounts}
+use Rattle.wt_session.specs.declared.handle.Handle.{Handle}
+use Rattle.wt_session.specs.declared.reply.Refusal.TheVariants as refusal
+use Rattle.wt_session.specs.declared.reply.Reply.{Reply}
+use Rattle.wt_session.specs.declared.reply.Reply.TheVariants as reply
+use Rattle.wt_session.specs.World.{World, party_of, row_of, type_at, debt_at, module_at, HasExactlyReached}
+use Rattle.wt_session.specs.Run.{Outcome, type_made, held_again, clone_made, root_made, hold_ended, type_dropped, debt_swept, module_made, module_released, full_of_parties, outcome_of, counts_after, done_by, sub_type_of, world_after}
+use Rattle.wt_session.proofs.BuildChecks.{not_below, step-checked}
+use Rattle.wt_session.specs.Answered.{check_of, trees_asked, index_of, is_refusal, TellsCheck, NamesTrees, IsAnswered, AreAnswered}
+
+-- ---- a refusal tells no trees
+
+pub refusal-names : (made : List RegisteredGroup) (told : Reply) (trees : Option (List ClosedTree)) → is_refusal told ≡ true → NamesTrees made told trees
+refusal-names made told None refuses = tt
+refusal-names made told (Some trees) refuses = λ accepts. absurd (false≢true (sym accepts ∙ refuses))
+
+-- ---- a refused command changes nothing
+
+abbrev IsUnchanged : Registry → List Handle → Outcome → Type 0
+IsUnchanged registry row outcome = is_refusal outcome.reply ≡ true → (outcome.registry ≡ registry) × (outcome.row ≡ row)
+
+accepted : {P : Type 0} → false ≡ true → P
+accepted refuses = absurd (false≢true refuses)
+
+type_made-unchanged : (registry : Registry) (row : List Handle) (made : Result (Hold × Registry) BuildRefusal) → IsUnchanged registry row (type_made registry row made)
+type_made-unchanged registry row (Ok made) = accepted
+type_made-unchanged registry row (Err cause) = λ refuses. (refl, refl)
+
+held_again-unchanged : (registry : Registry) (row : List Handle) (hold : Hold) (after : Result Registry Full) → IsUnchanged registry row (held_again registry row hold after)
+held_again-unchanged registry row hold (Ok after) = accepted
+held_again-unchanged registry row hold (Err full) = λ refuses. (refl, refl)
+
+clone_made-unchanged : (registry : Registry) (row : List Handle) (party place : ℕ) (hold : Option Hold) → IsUnchanged registry row (clone_made registry row party place hold)
+clone_made-unchanged registry row party place (Some hold) = held_again-unchanged registry row hold (held registry party hold.number)
+clone_made-unchanged registry row party place None = λ refuses. (refl, refl)
+
+root_made-unchanged : (registry : Registry) (row : List Handle) (found : Result (Option Hold × Registry) Full) → IsUnchanged registry row (root_made registry row found)
+root_made-unchanged registry row (Ok (Some hold, after)) = accepted
+root_made-unchanged registry row (Ok (None, after)) = accepted
+root_made-unchanged registry row (Err full) = λ refuses. (refl, refl)
+
+hold_ended-unchanged : (registry : Registry) (row : List Handle) (place : ℕ) (ended : Option ℕ × Registry) → IsUnchanged registry row (hold_ended row place ended)
+hold_ended-unchanged registry row place (Some number, after) = accepted
+hold_ended-unchanged registry row place (None, after) = accepted
+
+type_dropped-unchanged : (registry : Registry) (row : List Handle) (party place : ℕ) (hold : Option Hold) → IsUnchanged registry row (type_dropped registry row party place hold)
+type_dropped-unchanged registry row party place (Some hold) = hold_ended-unchanged registry row place (drop_hold registry party hold.number)
+type_dropped-unchanged registry row party place None = λ refuses. (refl, refl)
+
+debt_swept-unchanged : (registry : Registry) (row : List Handle) (party place : ℕ) (debt : Option ℕ) → IsUnchanged registry row (debt_swept registry row party place debt)
+debt_swept-unchanged registry row party place (Some number) = accepted
+debt_swept-unchanged registry row party place None = λ refuses. (refl, refl)
+
+module_made-unchanged : (registry : Registry) (row : List Handle) (made : Result (Collection × Registry) BuildRefusal) → IsUnchanged registry row (module_made registry row made)
+module_made-unchanged registry row (Ok made) = accepted
+module_made-unchanged registry row (Err cause) = λ refuses. (refl, refl)
+
+module_released-unchanged : (registry : Registry) (row : List Handle) (party place : ℕ) (types : Option Collection) → IsUnchanged registry row (module_released registry row party place types)
+module_released-unchanged registry row party place (Some types) = accepted
+module_released-unchanged registry row party place None = λ refuses. (refl, refl)
+
+outcome-unchanged : (registry : Registry) (row : List Handle) (command : Command) → IsUnchanged registry row (outcome_of registry row command)
+outcome-unchanged registry row (command.HostType by sub) = type_made-unchanged registry row (register registry by (sub_type_of sub))
+outcome-unchanged registry row (command.Module by types) = module_made-unchanged registry row (register_groups registry by types.groups)
+outcome-unchanged registry row (command.Clone by place) = clone_made-unchanged registry row by place (type_at row place)
+outcome-unchanged registry row (command.Root by index) = root_made-unchanged registry row (root registry by (index_of index))
+outcome-unchanged registry row (command.Drop by place) = type_dropped-unchanged registry row by place (type_at row place)
+outcome-unchanged registry row (command.Sweep by place) = debt_swept-unchanged registry row by place (debt_at row place)
+outcome-unchanged registry row (command.Release by place) = module_released-unchanged registry row by place (module_at row place)
+outcome-unchanged registry row (command.Live by) = accepted
+
+counts-unchanged : (told : Reply) (counts : ObjectCounts) → is_refusal told ≡ true → counts_after told counts ≡ counts
+counts-unchanged (reply.Module place indices) counts refuses = accepted refuses
+counts-unchanged other counts refuses = refl
+
+set-own_row : (handles : List (List Handle)) (party : ℕ) → slice_set handles party (row_of party handles) ≡ handles
+set-own_row [] party = refl
+set-own_row (row ∷ rows) zero = refl
+set-own_row (row ∷ rows) (suc party) = ap (λ (rest : List (List Handle)). row ∷ rest) (set-own_row rows party)
+
+done-unchanged : (world : World) (command : Command) → is_refusal (done_by world command).0 ≡ true → (done_by world command).1 ≡ world
+done-unchanged world command refuses =
+    let party = party_of command in
+    let outcome : Outcome = outcome_of world.registry (row_of party world.handles) command in
+    let same = outcome-unchanged world.registry (row_of party world.handles) command refuses in
+    let rows = ap (slice_set world.handles party) same.1 ∙ set-own_row world.handles party in
+    let counts = counts-unchanged outcome.reply world.counts refuses in
+    λ i. record { registry = same.0 i; handles = rows i; counts = counts i }
+
+-- ---- one command is answered
+
+pub refused-answered : (world : World) (command : Command) (party bound : ℕ) → party ≡ party_of command → bound ≡ world.registry.engine.limits.parties → bound ≤ party → OneIndexPerTree world.registry.made → HasExactlyReached world
+    → IsAnswered world command (reply.Refused (refusal.Full (record { limit = Parties; bound = bound; wanted = party + 1 }))) world
+refused-answered world command party bound by is past one reached =
+    let told = full_of_parties world (party_of command) in
+    let full : full_of_parties world (party_of command) ≡ record { limit = Parties; bound = bound; wanted = party + 1 } = λ i. record { limit = Parties; bound = (sym is) i; wanted = (sym by) i + 1 } in
+    subst (λ (f : Full). IsAnswered world command (reply.Refused (refusal.Full f)) world) full (record {
+      accepted = λ asked has. step-checked world command asked false (not_below (party_of command) world.registry.engine.limits.parties (omega (arith, by, is, past))) has;
+      named = refusal-names world.registry.made (reply.Refused (refusal.Full told)) (trees_asked world.registry command) refl;
+      unchanged = λ again. refl;
+      one_index = one;
+      reached = reached;
+    })
+
+pub done-answered : (before after : World) (command : Command) (result : Result Reply OutOfMemory) → nat_lt (party_of command) before.registry.engine.limits.parties ≡ true
+    → IfOk result (λ told. NamesTrees after.registry.made told (trees_asked before.registry command))
+    → IfOk result (λ told. done_by before command ≡ (told, after)) → OneIndexPerTree after.registry.made → HasExactlyReached after → IfOk result (λ told. IsAnswered before command told after)
+done-answered before after command (Ok told) below named done one reached = record {
+  accepted = λ asked is. subst (λ (p : Reply × World). TellsCheck p.0 (check_of before asked)) done (step-checked before command asked true below is);
+  named = named;
+  unchanged = λ refuses.
+      sym (ap (λ (p : Reply × World). p.1) done)
+      ∙ done-unchanged before command (ap (λ (p : Reply × World). is_refusal p.0) done ∙ refuses);
+  one_index = one;
+  reached = reached;
+}
+done-answered before after command (Err none) below named done one reached = tt
+
+-- ---- the indices of a module
+
+again : (indices : List VMSharedTypeIndex) → map index_of (map (λ i. i.0) indices) ≡ indices
+again [] = refl
+again (i ∷ indices) = ap (λ (rest : List VMSharedTypeIndex). i ∷ rest) (again indices)
+
+pub module-names : (made : List RegisteredGroup) (place : ℕ) (indices : List VMSharedTypeIndex) (trees : List ClosedTree) → map (closed_tree made) indices ≡ map Some trees
+    → NamesTrees made (reply.Module place (map (λ i. i.0) indices)) (Some trees)
+module-names made place indices trees named = λ accepts. (indices, ap (λ (told : List VMSharedTypeIndex). Some told) (again indices), named)
+
+pub type-names : (made : List RegisteredGroup) (place : ℕ) (index : VMSharedTypeIndex) (tree : ClosedTree) → closed_tree made index ∷ [] ≡ Some tree ∷ [] → NamesTrees made (reply.TypeMade place index.0) (Some (tree ∷ []))
+type-names made place index tree named = λ accepts. (index ∷ [], refl, named)
+
+-- ---- each command of a run is answered
+
+pub got-read : (commands : List Command) (n : ℕ) (command : Command) → n < length commands → command ≡ get_or commands n command → slice_get commands n ≡ Some command
+got-read [] n command below is = absurd (omega arith)
+got-read (first ∷ commands) zero command below is = ap (λ (c : Command). Some c) (sym is)
+got-read (first ∷ commands) (suc n) command below is = got-read commands n command (omega arith) is
+
+same_reply : (a b : Reply) → Some a ≡ Some b → a ≡ b
+same_reply a b h = cc
+
+same_command : (a b : Command) → Some a ≡ Some b → a ≡ b
+same_command a b h = cc
+
+no_reply : (told : Reply) → None ≡ Some told → ⊥
+no_reply told h = absurd (cc)
+
+-- a reply of a list with one more is of that list, or the one
+got-pushed : (replies : List Reply) (last told : Reply) (n : ℕ) → slice_get (replies ++ last ∷ []) n ≡ Some told → (slice_get replies n ≡ Some told) ⊎ ((n ≡ length replies) × (told ≡ last))
+got-pushed [] last told zero got = inr (refl, sym (same_reply last told got))
+got-pushed [] last told (suc n) got = absurd (no_reply told got)
+got-pushed (first ∷ replies) last told zero got = inl got
+got-pushed (first ∷ replies) last told (suc n) got = elim (got-pushed replies last told n got) [
+  | inl there ↦ inl there
+  | inr here ↦ inr (next here.0, here.1)
+]
+  where
+    next : n ≡ length replies → suc n ≡ length (first ∷ replies)
+    next same = omega (arith, same)
+
+none-past : (replies : List Reply) (told : Reply) (n : ℕ) → slice_get replies (length replies + n) ≡ Some told → ⊥
+none-past [] told n got = no_reply told got
+none-past (first ∷ replies) told n got =
+    let next : suc (length replies + n) ≡ length (first ∷ replies) + n = omega arith in
+    none-past replies told n (ap (λ (m : ℕ). slice_get (first ∷ replies) m) next ∙ got)
+
+pub answered-none : (before : World) (commands : List Command) (replies : List Reply) → AreAnswered before commands (length replies) replies
+answered-none before commands replies n command told asked got = absurd (none-past replies told n got)
+
+pub answered-more : (before mid after : World) (commands : List Command) (k others : ℕ) (replies : List Reply) (command : Command) (told : Reply) → length replies ≡ others + k → slice_get commands k ≡ Some command
+    → mid ≡ world_after before (take k commands) → after ≡ world_after before (take (k + 1) commands) → IsAnswered mid command told after → AreAnswered before commands others replies
+    → AreAnswered before commands others (replies ++ told ∷ [])
+answered-more before mid after commands k others replies command told long asked from to is earlier n asks tells wants got = elim (got-pushed replies told tells (others + n) got) [
+  | inl there ↦ earlier n asks tells wants there
+  | inr here ↦ last (omega (arith, long, here.0)) here.1
+]
+  where
+    last : n ≡ k → tells ≡ told → IsAnswered (world_after before (take n commands)) asks tells (world_after before (take (n + 1) commands))
+    last same said =
+        let one : asks ≡ command = same_command asks command (sym wants ∙ ap (slice_get commands) same ∙ asked) in
+        let worlds = subst (λ (w : World). IsAnswered w command told (world_after before (take (k + 1) commands))) from (subst (λ (w : World). IsAnswered mid command told w) to is) in
+        subst (λ (m : ℕ). IsAnswered (world_after before (take m commands)) asks tells (world_after before (take (m + 1) commands))) (sym same)
+        (subst (λ (c : Command). IsAnswered (world_after before (take k commands)) c tells (world_after before (take (k + 1) commands))) (sym one)
+        (subst (λ (r : Reply). IsAnswered (world_after before (take k commands)) command r (world_after before (take (k + 1) commands))) (sym said) worlds))

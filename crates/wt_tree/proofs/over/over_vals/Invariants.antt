@@ -1,7 +1,0 @@
--- The types before this one are changed.
-use Rattle.std.proofs.Common.{◌≡◌, take}
-use Rattle.wt_tree.specs.Over.{over_vals}
-use Rattle.wt_tree.proofs.over.over_vals.Given as goal
-
-abbrev pub invariant-loop-ty : goal.invariant-loop-ty
-invariant-loop-ty g l = l.changed ≡ over_vals (g.C.IndexChange.changed l.change) (take l.ty-index l.types)
