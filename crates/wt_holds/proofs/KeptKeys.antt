@@ -57,7 +57,7 @@ refs-kept keep made (x ∷ xs) (o ∷ os) passes is =
 
 key-kept : (keep : ℕ → Bool) (made : List RegisteredGroup) (entry : RecGroupEntry) → ((reference : ℕ × ℕ) → Among reference entry.outer → keep reference.0 ≡ true) → IsKey made entry → IsKey (kept_made keep made) entry
 key-kept keep made entry passes key = record {
-  names = refs-kept keep made (group_refs entry.group.types) entry.outer passes key.names;
+  names = refs-kept keep made (group_refs entry.hash_consing_key.types) entry.outer passes key.names;
   older = key.older;
   members = key.members;
   name_types = names_types-kept keep made (made_of entry).description passes key.name_types;

@@ -53,7 +53,7 @@ names-before made more types outer names = refs-before made more (group_refs typ
 
 key-before : (made more : List RegisteredGroup) (entry : RecGroupEntry) → IsKey made entry → IsKey (made ++ more) entry
 key-before made more entry key = record {
-  names = names-before made more entry.group.types entry.outer key.names;
+  names = names-before made more entry.hash_consing_key.types entry.outer key.names;
   older = key.older;
   members = key.members;
   name_types = names_types-before made more (made_of entry).description key.name_types;
@@ -66,20 +66,20 @@ indexed entries top keys a at =
     let entry : RecGroupEntry = named.0 in
     let same : a ≡ made_of entry = named.2 in
     ap (λ (m : RegisteredGroup). length m.indices) same ∙ (keys.keys entry named.1).members
-    ∙ sym (length-number_group entry.group.types) ∙ ap (λ (m : RegisteredGroup). length m.description.members) (sym same)
+    ∙ sym (length-number_group entry.hash_consing_key.types) ∙ ap (λ (m : RegisteredGroup). length m.description.members) (sym same)
 
 -- a new entry refers to older groups, since it refers to registered ones; where its key names types, it does
-pub is_key-new : (entries : List RecGroupEntry) (top : ℕ) (entry : RecGroupEntry) → AreKeys entries top → entry.number ≡ top + 1 → Names (made_by entries) entry.group.types entry.outer → length entry.indices ≡ length entry.group.types → KeyNamesTypes (made_by entries) entry.group.types → IsKey (made_by entries) entry
+pub is_key-new : (entries : List RecGroupEntry) (top : ℕ) (entry : RecGroupEntry) → AreKeys entries top → entry.number ≡ top + 1 → Names (made_by entries) entry.hash_consing_key.types entry.outer → length entry.shared_type_indices ≡ length entry.hash_consing_key.types → KeyNamesTypes (made_by entries) entry.hash_consing_key.types → IsKey (made_by entries) entry
 is_key-new entries top entry keys next names members name_types = record {
   names = names;
   older = older;
   members = members;
-  name_types = names_types-key (made_by entries) entry.group.types entry.outer names name_types (indexed entries top keys);
+  name_types = names_types-key (made_by entries) entry.hash_consing_key.types entry.outer names name_types (indexed entries top keys);
 }
   where
     older : (reference : ℕ × ℕ) → Among reference entry.outer → reference.0 < entry.number
     older reference at =
-        let named = names-registered (made_by entries) entry.group.types entry.outer names reference at in
+        let named = names-registered (made_by entries) entry.hash_consing_key.types entry.outer names reference at in
         let within = number_within 0 top (made_by entries) named.0 keys.rising named.1 in
         let same = named.2 in
         omega (arith, next, within, same)
@@ -108,25 +108,25 @@ module _ (entries : List RecGroupEntry) (top : ℕ) (entry : RecGroupEntry) (key
   tree-before : (a : RegisteredGroup) → Among a (made_by entries) → trees (made_by entries ++ made_of entry ∷ []) a.number ≡ trees (made_by entries) a.number
   tree-before a at = trees-pushed (made_by entries) (made_of entry) a.number (other_number a at)
 
-  tree-added : trees (made_by entries ++ made_of entry ∷ []) entry.number ≡ tree_of (made_by entries) entry.group.types
+  tree-added : trees (made_by entries ++ made_of entry ∷ []) entry.number ≡ tree_of (made_by entries) entry.hash_consing_key.types
   tree-added =
       trees-pushed_own (made_by entries) (made_of entry)
-      ∙ ap (close (trees (made_by entries))) (sym (describe-named (made_by entries) entry.group.types entry.outer added.key.names))
+      ∙ ap (close (trees (made_by entries))) (sym (describe-named (made_by entries) entry.hash_consing_key.types entry.outer added.key.names))
 
   -- no registered group has the tree of the new one, since none has its key
-  other_tree : (a : RegisteredGroup) → Among a (made_by entries) → trees (made_by entries) a.number ≡ tree_of (made_by entries) entry.group.types → ⊥
+  other_tree : (a : RegisteredGroup) → Among a (made_by entries) → trees (made_by entries) a.number ≡ tree_of (made_by entries) entry.hash_consing_key.types → ⊥
   other_tree a at same =
       let named = among_map made_of entries a at in
       let tree = ap (λ (m : RegisteredGroup). trees (made_by entries) m.number) (sym named.2) ∙ same in
-      let types = (key-tree entries top named.0 entry.group.types entry.outer keys named.1 added.key.names).1 tree in
-      let passes : rec_group_eq named.0.group entry.group ≡ true = ap (λ ts. rec_group_eq (record { types = ts }) entry.group) types ∙ rec_group_eq-refl entry.group in
-      let none = find-none (λ e. rec_group_eq e.group entry.group) entries added.new named.0 named.1 in
+      let types = (key-tree entries top named.0 entry.hash_consing_key.types entry.outer keys named.1 added.key.names).1 tree in
+      let passes : rec_group_eq named.0.hash_consing_key entry.hash_consing_key ≡ true = ap (λ ts. rec_group_eq (record { types = ts }) entry.hash_consing_key) types ∙ rec_group_eq-refl entry.hash_consing_key in
+      let none = find-none (λ e. rec_group_eq e.hash_consing_key entry.hash_consing_key) entries added.new named.0 named.1 in
       false≢true (sym none ∙ passes)
 
   apart-pushed : AreApartTrees (made_by entries ++ made_of entry ∷ [])
   apart-pushed a b at bt same = by (among_pushed (made_by entries) (made_of entry) a at) (among_pushed (made_by entries) (made_of entry) b bt)
     where
-      own : (c : RegisteredGroup) → c ≡ made_of entry → trees (made_by entries ++ made_of entry ∷ []) c.number ≡ tree_of (made_by entries) entry.group.types
+      own : (c : RegisteredGroup) → c ≡ made_of entry → trees (made_by entries ++ made_of entry ∷ []) c.number ≡ tree_of (made_by entries) entry.hash_consing_key.types
       own c is = ap (λ (m : RegisteredGroup). trees (made_by entries ++ made_of entry ∷ []) m.number) is ∙ tree-added
 
       by : Among a (made_by entries) ⊎ (a ≡ made_of entry) → Among b (made_by entries) ⊎ (b ≡ made_of entry) → a.number ≡ b.number
@@ -156,7 +156,7 @@ module _ (entries : List RecGroupEntry) (top : ℕ) (entry : RecGroupEntry) (key
   tree-kept a at = ap (λ made. trees made a.number) pushed ∙ tree-before a at
 
   -- and the new one has that of its key
-  pub tree-new : trees (made_by (entries ++ entry ∷ [])) entry.number ≡ tree_of (made_by entries) entry.group.types
+  pub tree-new : trees (made_by (entries ++ entry ∷ [])) entry.number ≡ tree_of (made_by entries) entry.hash_consing_key.types
   tree-new = ap (λ made. trees made entry.number) pushed ∙ tree-added
 
   number-kept : (group : RegisteredGroup) (number : ℕ) → Among group (made_by entries) → group.number ≡ number → trees (made_by (entries ++ entry ∷ [])) number ≡ trees (made_by entries) number
@@ -208,7 +208,7 @@ names_older entries top keys a number at leads =
     let key = keys.keys named.0 named.1 in
     let there : Among edge.0 named.0.outer = subst (Among edge.0) (ap (λ (m : RegisteredGroup). m.description.outer) named.2) edge.1 in
     let below = subst (λ (m : RegisteredGroup). (edge.0).0 < m.number) (sym named.2) (key.older edge.0 there) in
-    let group = names-registered (made_by entries) named.0.group.types named.0.outer key.names edge.0 there in
+    let group = names-registered (made_by entries) named.0.hash_consing_key.types named.0.outer key.names edge.0 there in
     (subst (λ n. n < a.number) (sym edge.2) below, group.0, group.1, group.2 ∙ sym edge.2)
 
 -- each registered group names types
@@ -218,12 +218,12 @@ name_types entries top keys a at =
     subst (λ (m : RegisteredGroup). NamesTypes (made_by entries) m.description) (sym named.2) (keys.keys named.0 named.1).name_types
 
 -- the closed tree of each index of a registered group
-pub closed_tree-registered : (entries : List RecGroupEntry) (top : ℕ) (entry : RecGroupEntry) (k : ℕ) (i : VMSharedTypeIndex) → AreKeys entries top → Among entry entries → slice_get entry.indices k ≡ Some i → closed_tree (made_by entries) i ≡ Some (record { tree = trees (made_by entries) entry.number; place = k })
+pub closed_tree-registered : (entries : List RecGroupEntry) (top : ℕ) (entry : RecGroupEntry) (k : ℕ) (i : VMSharedTypeIndex) → AreKeys entries top → Among entry entries → slice_get entry.shared_type_indices k ≡ Some i → closed_tree (made_by entries) i ≡ Some (record { tree = trees (made_by entries) entry.number; place = k })
 closed_tree-registered entries top entry k i keys at is =
     ap (option_map (λ at. record { tree = trees (made_by entries) at.0; place = at.1 })) (keys.located (made_of entry) k i (among_mapped made_of entries entry at) is)
 
 -- and of each index of a new one
-pub closed_tree-new : (entries : List RecGroupEntry) (top : ℕ) (entry : RecGroupEntry) (k : ℕ) (i : VMSharedTypeIndex) → AreKeys entries top → IsNewKey entries top entry → slice_get entry.indices k ≡ Some i → closed_tree (made_by (entries ++ entry ∷ [])) i ≡ Some (record { tree = tree_of (made_by entries) entry.group.types; place = k })
+pub closed_tree-new : (entries : List RecGroupEntry) (top : ℕ) (entry : RecGroupEntry) (k : ℕ) (i : VMSharedTypeIndex) → AreKeys entries top → IsNewKey entries top entry → slice_get entry.shared_type_indices k ≡ Some i → closed_tree (made_by (entries ++ entry ∷ [])) i ≡ Some (record { tree = tree_of (made_by entries) entry.hash_consing_key.types; place = k })
 closed_tree-new entries top entry k i keys added is =
     closed_tree-registered (entries ++ entry ∷ []) (top + 1) entry k i (keys-push entries top entry keys added) (among_last entries entry) is
     ∙ ap (λ tree. Some (record { tree = tree; place = k })) (tree-new entries top entry keys added)

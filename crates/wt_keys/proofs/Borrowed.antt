@@ -20,8 +20,8 @@ use Rattle.wt_keys.proofs.ShownIndices.{shown-key}
 
 -- the entry that has the index shows the type at its place
 pub shown_at-entry : (entries : List RecGroupEntry) (top n : ℕ) (entry : RecGroupEntry) (i : VMSharedTypeIndex) (place : ℕ) → AreKeys entries top → AreShown entries
-    → n < length entries → entry ≡ get_or entries n entry → place_in i entry.indices ≡ Some place
-    → shown_at (made_by entries) (made_by (drop n entries)) i ≡ slice_get entry.shown place
+    → n < length entries → entry ≡ get_or entries n entry → place_in i entry.shared_type_indices ≡ Some place
+    → shown_at (made_by entries) (made_by (drop n entries)) i ≡ slice_get entry.runtime_types place
 shown_at-entry entries top n entry i place keys are_shown below is at =
     let made = made_by entries in
     let among : Among entry entries = get_among entries n entry (slice_get_read entries (length entries) n entry refl below is) in
@@ -36,21 +36,21 @@ is_some-within (x ∷ xs) zero below = refl
 is_some-within (x ∷ xs) (suc k) below = is_some-within xs k (omega (arith, below))
 
 -- each registered group shows as many members as it has indices
-length-shown : (entries : List RecGroupEntry) (top : ℕ) (entry : RecGroupEntry) → AreKeys entries top → Among entry entries → length (shown (made_by entries) (made_of entry)) ≡ length entry.indices
+length-shown : (entries : List RecGroupEntry) (top : ℕ) (entry : RecGroupEntry) → AreKeys entries top → Among entry entries → length (shown (made_by entries) (made_of entry)) ≡ length entry.shared_type_indices
 length-shown entries top entry keys at =
     length-map (made_of entry).description.members (map_sub_refs (shown_index (made_by entries) (made_of entry)))
-    ∙ length-number_group entry.group.types
+    ∙ length-number_group entry.hash_consing_key.types
     ∙ sym (keys.keys entry at).members
 
-shown_at-located : (made : List RegisteredGroup) (entries : List RecGroupEntry) (i : VMSharedTypeIndex) → ((entry : RecGroupEntry) → Among entry entries → length (shown made (made_of entry)) ≡ length entry.indices)
+shown_at-located : (made : List RegisteredGroup) (entries : List RecGroupEntry) (i : VMSharedTypeIndex) → ((entry : RecGroupEntry) → Among entry entries → length (shown made (made_of entry)) ≡ length entry.shared_type_indices)
     → is_some (shown_at made (made_by entries) i) ≡ is_some (locate (made_by entries) i)
 shown_at-located made [] i long = refl
-shown_at-located made (e ∷ entries) i long = by (place_in i e.indices) refl (shown_at-located made entries i (λ x at. long x (inr at)))
+shown_at-located made (e ∷ entries) i long = by (place_in i e.shared_type_indices) refl (shown_at-located made entries i (λ x at. long x (inr at)))
   where
-    by : (place : Option ℕ) → place_in i e.indices ≡ place → is_some (shown_at made (made_by entries) i) ≡ is_some (locate (made_by entries) i)
+    by : (place : Option ℕ) → place_in i e.shared_type_indices ≡ place → is_some (shown_at made (made_by entries) i) ≡ is_some (locate (made_by entries) i)
         → is_some (member_here place (shown made (made_of e)) (shown_at made (made_by entries) i)) ≡ is_some (located_here e.number place (locate (made_by entries) i))
     by (Some place) at later =
-        let within : place < length e.indices = found_within (λ (j : VMSharedTypeIndex). j.0 == i.0) place e.indices at in
+        let within : place < length e.shared_type_indices = found_within (λ (j : VMSharedTypeIndex). j.0 == i.0) place e.shared_type_indices at in
         let same = long e (inl refl) in
         is_some-within (shown made (made_of e)) place (omega (arith, within, same))
     by None at later = later

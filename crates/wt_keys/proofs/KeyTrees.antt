@@ -95,12 +95,12 @@ tree-closed entries top entry keys at =
     trees-registered top (made_by entries) keys.rising (names_below entries top keys) (made_of entry) (among_mapped made_of entries entry at)
 
 -- and it is the tree of its key
-pub tree-of_key : (entries : List RecGroupEntry) (top : ℕ) (entry : RecGroupEntry) → AreKeys entries top → Among entry entries → trees (made_by entries) entry.number ≡ tree_of (made_by entries) entry.group.types
+pub tree-of_key : (entries : List RecGroupEntry) (top : ℕ) (entry : RecGroupEntry) → AreKeys entries top → Among entry entries → trees (made_by entries) entry.number ≡ tree_of (made_by entries) entry.hash_consing_key.types
 tree-of_key entries top entry keys at =
     tree-closed entries top entry keys at
-    ∙ ap (close (trees (made_by entries))) (sym (describe-named (made_by entries) entry.group.types entry.outer (keys.keys entry at).names))
+    ∙ ap (close (trees (made_by entries))) (sym (describe-named (made_by entries) entry.hash_consing_key.types entry.outer (keys.keys entry at).names))
 
-key-from_tree : (entries : List RecGroupEntry) (top : ℕ) (entry : RecGroupEntry) (types : List WasmSubType) (outer : List (ℕ × ℕ)) → AreKeys entries top → Among entry entries → Names (made_by entries) types outer → trees (made_by entries) entry.number ≡ tree_of (made_by entries) types → entry.group.types ≡ types
+key-from_tree : (entries : List RecGroupEntry) (top : ℕ) (entry : RecGroupEntry) (types : List WasmSubType) (outer : List (ℕ × ℕ)) → AreKeys entries top → Among entry entries → Names (made_by entries) types outer → trees (made_by entries) entry.number ≡ tree_of (made_by entries) types → entry.hash_consing_key.types ≡ types
 key-from_tree entries top entry types outer keys at names same =
     let made = made_by entries in
     let named = (keys.keys entry at).names in
@@ -110,33 +110,33 @@ key-from_tree entries top entry types outer keys at names same =
     let described = close-injective (trees made) (made_of entry).description other closed apart in
     let members = ap (λ (d : Description). d.members) described in
     let references = ap (λ (d : Description). map Some d.outer) described in
-    group_from entry.group.types types members
-    (refs_same top made keys.rising (group_refs entry.group.types) (group_refs types) outer (named ∙ references) names)
+    group_from entry.hash_consing_key.types types members
+    (refs_same top made keys.rising (group_refs entry.hash_consing_key.types) (group_refs types) outer (named ∙ references) names)
   where
     apart : (r s : ℕ × ℕ) → Among r entry.outer → Among s outer → trees (made_by entries) r.0 ≡ trees (made_by entries) s.0 → r.0 ≡ s.0
     apart r s first second equal =
-        let a = names-registered (made_by entries) entry.group.types entry.outer (keys.keys entry at).names r first in
+        let a = names-registered (made_by entries) entry.hash_consing_key.types entry.outer (keys.keys entry at).names r first in
         let b = names-registered (made_by entries) types outer names s second in
         sym a.2 ∙ keys.apart a.0 b.0 a.1 b.1 (ap (trees (made_by entries)) a.2 ∙ equal ∙ ap (trees (made_by entries)) (sym b.2)) ∙ b.2
 
 -- a registered group has these types as its key exactly where it has their tree
-pub key-tree : (entries : List RecGroupEntry) (top : ℕ) (entry : RecGroupEntry) (types : List WasmSubType) (outer : List (ℕ × ℕ)) → AreKeys entries top → Among entry entries → Names (made_by entries) types outer → (entry.group.types ≡ types) ↔ (trees (made_by entries) entry.number ≡ tree_of (made_by entries) types)
+pub key-tree : (entries : List RecGroupEntry) (top : ℕ) (entry : RecGroupEntry) (types : List WasmSubType) (outer : List (ℕ × ℕ)) → AreKeys entries top → Among entry entries → Names (made_by entries) types outer → (entry.hash_consing_key.types ≡ types) ↔ (trees (made_by entries) entry.number ≡ tree_of (made_by entries) types)
 key-tree entries top entry types outer keys at names = (
   λ same. tree-of_key entries top entry keys at ∙ ap (tree_of (made_by entries)) same,
   key-from_tree entries top entry types outer keys at names,
 )
 
-key_test : (entries : List RecGroupEntry) (top : ℕ) (entry : RecGroupEntry) (types : List WasmSubType) (outer : List (ℕ × ℕ)) → AreKeys entries top → Among entry entries → Names (made_by entries) types outer → rec_group_eq entry.group (record { types = types }) ≡ tree_eq (trees (made_by entries) entry.number) (tree_of (made_by entries) types)
+key_test : (entries : List RecGroupEntry) (top : ℕ) (entry : RecGroupEntry) (types : List WasmSubType) (outer : List (ℕ × ℕ)) → AreKeys entries top → Among entry entries → Names (made_by entries) types outer → rec_group_eq entry.hash_consing_key (record { types = types }) ≡ tree_eq (trees (made_by entries) entry.number) (tree_of (made_by entries) types)
 key_test entries top entry types outer keys at names =
     let key : WasmRecGroup = record { types = types } in
     let both = key-tree entries top entry types outer keys at names in
     let tree = tree_eq-decides (trees (made_by entries) entry.number) (tree_of (made_by entries) types) in
-    same_test (rec_group_eq entry.group key) (tree_eq (trees (made_by entries) entry.number) (tree_of (made_by entries) types))
-    (λ passes. tree.1 (both.0 (ap (λ (g : WasmRecGroup). g.types) (rec_group_eq-exact entry.group key passes))))
+    same_test (rec_group_eq entry.hash_consing_key key) (tree_eq (trees (made_by entries) entry.number) (tree_of (made_by entries) types))
+    (λ passes. tree.1 (both.0 (ap (λ (g : WasmRecGroup). g.types) (rec_group_eq-exact entry.hash_consing_key key passes))))
     (λ passes. ap (λ ts. rec_group_eq (record { types = ts }) key) (both.1 (tree.0 passes)) ∙ rec_group_eq-refl key)
 
 -- the search by trees finds what the search by keys does
-pub find_tree-by_key : (entries : List RecGroupEntry) (top : ℕ) (types : List WasmSubType) (outer : List (ℕ × ℕ)) → AreKeys entries top → Names (made_by entries) types outer → find_tree (made_by entries) (tree_of (made_by entries) types) ≡ option_map made_of (find (λ entry. rec_group_eq entry.group (record { types = types })) entries)
+pub find_tree-by_key : (entries : List RecGroupEntry) (top : ℕ) (types : List WasmSubType) (outer : List (ℕ × ℕ)) → AreKeys entries top → Names (made_by entries) types outer → find_tree (made_by entries) (tree_of (made_by entries) types) ≡ option_map made_of (find (λ entry. rec_group_eq entry.hash_consing_key (record { types = types })) entries)
 find_tree-by_key entries top types outer keys names =
-    find-map made_of (λ entry. rec_group_eq entry.group (record { types = types })) (λ m. tree_eq (trees (made_by entries) m.number) (tree_of (made_by entries) types)) entries
+    find-map made_of (λ entry. rec_group_eq entry.hash_consing_key (record { types = types })) (λ m. tree_eq (trees (made_by entries) m.number) (tree_of (made_by entries) types)) entries
     (λ entry at. key_test entries top entry types outer keys at names)

@@ -13,10 +13,10 @@ use Rattle.wt_keys.proofs.AddedKeys.{is_key-new}
 use Rattle.wt_model.proofs.indices.FreshIndices.{length-assign_shared_type_indices, assign_shared_type_indices-below, assign_shared_type_indices-unused, assign_shared_type_indices-distinct}
 use Rattle.wt_keys.proofs.KeyTrees.{describe-named}
 
-module _ (entries : List RecGroupEntry) (top : ℕ) (entry : RecGroupEntry) (number : entry.number ≡ top + 1) (names : Names (made_by entries) entry.group.types entry.outer) (indices : entry.indices ≡ assign_shared_type_indices (length entry.group.types) (used (made_by entries))) where
-  pub new_key : AreKeys entries top → KeyNamesTypes (made_by entries) entry.group.types → find (λ e. rec_group_eq e.group entry.group) entries ≡ None → IsNewKey entries top entry
+module _ (entries : List RecGroupEntry) (top : ℕ) (entry : RecGroupEntry) (number : entry.number ≡ top + 1) (names : Names (made_by entries) entry.hash_consing_key.types entry.outer) (indices : entry.shared_type_indices ≡ assign_shared_type_indices (length entry.hash_consing_key.types) (used (made_by entries))) where
+  pub new_key : AreKeys entries top → KeyNamesTypes (made_by entries) entry.hash_consing_key.types → find (λ e. rec_group_eq e.hash_consing_key entry.hash_consing_key) entries ≡ None → IsNewKey entries top entry
   new_key keys name_types new =
-      let n = length entry.group.types in
+      let n = length entry.hash_consing_key.types in
       let numbers = used (made_by entries) in
       record {
         number = number;
@@ -31,7 +31,7 @@ module _ (entries : List RecGroupEntry) (top : ℕ) (entry : RecGroupEntry) (num
       }
 
   -- and what it is among the registered groups
-  pub new_made : made_of entry ≡ record { number = top + 1; description = describe (made_by entries) entry.group.types; indices = assign_shared_type_indices (length entry.group.types) (used (made_by entries)) }
+  pub new_made : made_of entry ≡ record { number = top + 1; description = describe (made_by entries) entry.hash_consing_key.types; indices = assign_shared_type_indices (length entry.hash_consing_key.types) (used (made_by entries)) }
   new_made =
-      let described = sym (describe-named (made_by entries) entry.group.types entry.outer names) in
+      let described = sym (describe-named (made_by entries) entry.hash_consing_key.types entry.outer names) in
       λ t. record { number = number t; description = described t; indices = indices t }

@@ -62,17 +62,17 @@ module _ (top : ℕ) (made : List RegisteredGroup) (rising : IsRising 0 made top
   refs-shown (x ∷ xs) (o ∷ os) is (suc n) d = refs-shown xs os (rest_same is) n d
 
 -- each reference of the numbered key is shown as that of the key is
-shown-filled : (entries : List RecGroupEntry) (top : ℕ) (entry : RecGroupEntry) → AreKeys entries top → Among entry entries → (x : EngineOrModuleTypeIndex) → shown_index (made_by entries) (made_of entry) x ≡ own_shown entry.indices (fill_index (group_refs entry.group.types) x)
+shown-filled : (entries : List RecGroupEntry) (top : ℕ) (entry : RecGroupEntry) → AreKeys entries top → Among entry entries → (x : EngineOrModuleTypeIndex) → shown_index (made_by entries) (made_of entry) x ≡ own_shown entry.shared_type_indices (fill_index (group_refs entry.hash_consing_key.types) x)
 shown-filled entries top entry keys at (index.Engine i) = refl
 shown-filled entries top entry keys at (index.Module n) =
-    sym (refs-shown top (made_by entries) keys.rising entry.indices (group_refs entry.group.types) entry.outer (keys.keys entry at).names n.0 n)
+    sym (refs-shown top (made_by entries) keys.rising entry.shared_type_indices (group_refs entry.hash_consing_key.types) entry.outer (keys.keys entry at).names n.0 n)
 shown-filled entries top entry keys at (index.RecGroup k) = refl
 
 -- a registered group shows its key, with its own members as indices
-pub shown-key : (entries : List RecGroupEntry) (top : ℕ) (entry : RecGroupEntry) → AreKeys entries top → Among entry entries → shown (made_by entries) (made_of entry) ≡ map_group_refs (own_shown entry.indices) entry.group.types
+pub shown-key : (entries : List RecGroupEntry) (top : ℕ) (entry : RecGroupEntry) → AreKeys entries top → Among entry entries → shown (made_by entries) (made_of entry) ≡ map_group_refs (own_shown entry.shared_type_indices) entry.hash_consing_key.types
 shown-key entries top entry keys at =
-    let refs = group_refs entry.group.types in
-    let members = number_group entry.group.types in
-    map_group_refs-same (shown_index (made_by entries) (made_of entry)) (λ x. own_shown entry.indices (fill_index refs x)) (shown-filled entries top entry keys at) members
-    ∙ sym (map_group_refs-over (own_shown entry.indices) (fill_index refs) members)
-    ∙ ap (map_group_refs (own_shown entry.indices)) (refill_group entry.group.types)
+    let refs = group_refs entry.hash_consing_key.types in
+    let members = number_group entry.hash_consing_key.types in
+    map_group_refs-same (shown_index (made_by entries) (made_of entry)) (λ x. own_shown entry.shared_type_indices (fill_index refs x)) (shown-filled entries top entry keys at) members
+    ∙ sym (map_group_refs-over (own_shown entry.shared_type_indices) (fill_index refs) members)
+    ∙ ap (map_group_refs (own_shown entry.shared_type_indices)) (refill_group entry.hash_consing_key.types)

@@ -8,9 +8,9 @@ use Rattle.wt_keys.specs.declared.entry.RecGroupEntry.{RecGroupEntry}
 use Rattle.wt_keys.specs.Entries.{made_by}
 
 -- an index is used where one of the entries has it
-pub is_used-by : (k : ℕ) (entries : List RecGroupEntry) → list_any (λ entry. list_any (λ i. i.0 == k) entry.indices) entries ≡ is_used (used (made_by entries)) k
+pub is_used-by : (k : ℕ) (entries : List RecGroupEntry) → list_any (λ entry. list_any (λ i. i.0 == k) entry.shared_type_indices) entries ≡ is_used (used (made_by entries)) k
 is_used-by k [] = refl
 is_used-by k (entry ∷ entries) =
-    let here = list_any-bits k entry.indices in
+    let here = list_any-bits k entry.shared_type_indices in
     let later = is_used-by k entries in
-    (λ i. here i || later i) ∙ sym (list_any-append (λ j. j == k) (map (λ i. i.0) entry.indices) (used (made_by entries)))
+    (λ i. here i || later i) ∙ sym (list_any-append (λ j. j == k) (map (λ i. i.0) entry.shared_type_indices) (used (made_by entries)))

@@ -8,8 +8,8 @@ use Rattle.wt_keys.specs.declared.entry.RecGroupEntry.{RecGroupEntry}
 abbrev pub made_of : RecGroupEntry → RegisteredGroup
 made_of entry = record {
   number = entry.number;
-  description = record { members = number_group entry.group.types; outer = entry.outer };
-  indices = entry.indices;
+  description = record { members = number_group entry.hash_consing_key.types; outer = entry.outer };
+  indices = entry.shared_type_indices;
 }
 
 abbrev pub made_by : List RecGroupEntry → List RegisteredGroup

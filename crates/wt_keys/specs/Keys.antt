@@ -45,9 +45,9 @@ pub record KeyNamesTypes (made : List RegisteredGroup) (types : List WasmSubType
 -- registered types, which outer tells, of older groups; it has one index for each member; and what stands in it
 -- names types of the kinds that are said.
 pub record IsKey (made : List RegisteredGroup) (entry : RecGroupEntry) : Type 0 where
-  pub names : Names made entry.group.types entry.outer
+  pub names : Names made entry.hash_consing_key.types entry.outer
   pub older : (reference : ℕ × ℕ) → Among reference entry.outer → reference.0 < entry.number
-  pub members : length entry.indices ≡ length entry.group.types
+  pub members : length entry.shared_type_indices ≡ length entry.hash_consing_key.types
   pub name_types : NamesTypes made (made_of entry).description
 
 -- registered groups with different numbers have different trees
@@ -67,10 +67,10 @@ pub record AreKeys (entries : List RecGroupEntry) (top : ℕ) : Type 0 where
 pub record IsNewKey (entries : List RecGroupEntry) (top : ℕ) (entry : RecGroupEntry) : Type 0 where
   pub number : entry.number ≡ top + 1
   pub key : IsKey (made_by entries) entry
-  pub new : find (λ e. rec_group_eq e.group entry.group) entries ≡ None
-  pub unused : AreUnused (used (made_by entries)) entry.indices
-  pub distinct : AreDistinct entry.indices
-  pub within : (i : VMSharedTypeIndex) → Among i entry.indices → i.0 < length (used (made_by entries)) + length entry.indices
+  pub new : find (λ e. rec_group_eq e.hash_consing_key entry.hash_consing_key) entries ≡ None
+  pub unused : AreUnused (used (made_by entries)) entry.shared_type_indices
+  pub distinct : AreDistinct entry.shared_type_indices
+  pub within : (i : VMSharedTypeIndex) → Among i entry.shared_type_indices → i.0 < length (used (made_by entries)) + length entry.shared_type_indices
 
 -- ---- every reference as an index
 
@@ -82,4 +82,4 @@ own_shown indices (index.RecGroup k) = unwrap_or (option_map index.Engine (slice
 
 -- the form of an entry's members that is shown has every reference as an index
 abbrev pub AreShown : List RecGroupEntry → Type 0
-AreShown entries = (entry : RecGroupEntry) → Among entry entries → entry.shown ≡ map_group_refs (own_shown entry.indices) entry.group.types
+AreShown entries = (entry : RecGroupEntry) → Among entry entries → entry.runtime_types ≡ map_group_refs (own_shown entry.shared_type_indices) entry.hash_consing_key.types

@@ -8,13 +8,13 @@ use wt_env::types::{VMSharedTypeIndex, WasmRecGroup, WasmSubType};
 pub struct RecGroupEntry {
     /// Its registration number.
     pub number: u64,
-    /// The key: references that leave the group are engine indices, its own are places.
-    pub group: WasmRecGroup,
+    /// The key by which equal groups are one: references that leave the group are engine indices, its own are places.
+    pub hash_consing_key: WasmRecGroup,
     /// The members with every reference as an engine index, as they are shown.
-    pub shown: Seq<WasmSubType>,
+    pub runtime_types: Seq<WasmSubType>,
     /// The registration number and place that each reference names that leaves the group, in order of
     /// occurrence.
     pub outer: Seq<(u64, u32)>,
     /// The index of each member.
-    pub indices: Seq<VMSharedTypeIndex>,
+    pub shared_type_indices: Seq<VMSharedTypeIndex>,
 }

@@ -20,23 +20,23 @@ use wt_model::live::LiveGroup;
 
 /// The entry that has this key.
 pub fn find_group<'a>(entries: &'a [RecGroupEntry], key: &WasmRecGroup) -> Option<&'a RecGroupEntry>
-    ensures { option_copied result ≡ find (λ entry. rec_group_eq entry.group key.now) entries.now }
+    ensures { option_copied result ≡ find (λ entry. rec_group_eq entry.hash_consing_key key.now) entries.now }
 {
-    entries.iter().find(|entry| entry.group == *key)
+    entries.iter().find(|entry| entry.hash_consing_key == *key)
 }
 
 fn holds_index(entry: &RecGroupEntry, candidate: u32) -> bool
-    ensures { result ≡ list_any (λ i. i.0 == candidate) entry.now.indices }
+    ensures { result ≡ list_any (λ i. i.0 == candidate) entry.now.shared_type_indices }
 {
     entry
-        .indices
+        .shared_type_indices
         .as_slice()
         .iter()
         .any(|index| index.bits() == candidate)
 }
 
 fn any_holds_index(entries: &[RecGroupEntry], candidate: u32) -> bool
-    ensures { result ≡ list_any (λ entry. list_any (λ i. i.0 == candidate) entry.indices) entries.now }
+    ensures { result ≡ list_any (λ entry. list_any (λ i. i.0 == candidate) entry.shared_type_indices) entries.now }
 {
     entries.iter().any(|entry| holds_index(entry, candidate))
 }
@@ -66,8 +66,8 @@ pub fn borrow_from(entries: &[RecGroupEntry], index: VMSharedTypeIndex) -> Optio
     ensures { option_copied result ≡ sub_type_at (made_by entries.now) index }
 {
     for entry in entries {
-        if let Some(place) = place_of(entry.indices.as_slice(), index) {
-            return entry.shown.get(place);
+        if let Some(place) = place_of(entry.shared_type_indices.as_slice(), index) {
+            return entry.runtime_types.get(place);
         }
     }
     None
@@ -86,7 +86,7 @@ pub fn live_groups(alloc: Global, entries: &[RecGroupEntry]) -> Result<Seq<LiveG
 {
     let mut groups = Seq::new(alloc);
     for entry in entries {
-        let indices = index_bits(alloc, entry.indices.as_slice())?;
+        let indices = index_bits(alloc, entry.shared_type_indices.as_slice())?;
         groups.push(LiveGroup {
             number: entry.number,
             indices,
@@ -100,7 +100,7 @@ pub fn number_at(entries: &[RecGroupEntry], index: VMSharedTypeIndex) -> Option<
     ensures { result ≡ option_map (λ at. at.0) (locate (made_by entries.now) index) }
 {
     for entry in entries {
-        if place_of(entry.indices.as_slice(), index).is_some() {
+        if place_of(entry.shared_type_indices.as_slice(), index).is_some() {
             return Some(entry.number);
         }
     }

@@ -69,10 +69,10 @@ of_kinds-joined made first second kinds others long here there j i wanted is of 
 
 -- the types of a registered group are of the kinds of its key, in which references were changed
 pub of_kinds-entry : (made : List RegisteredGroup) (entry : RecGroupEntry) (f : EngineOrModuleTypeIndex → EngineOrModuleTypeIndex) (types : List WasmSubType)
-    → IsLocated made → Among (made_of entry) made → entry.group.types ≡ map_group_refs f types → AreOfKinds made entry.indices (map member_kind types)
+    → IsLocated made → Among (made_of entry) made → entry.hash_consing_key.types ≡ map_group_refs f types → AreOfKinds made entry.shared_type_indices (map member_kind types)
 of_kinds-entry made entry f types located among same j i wanted is of =
     let kind =
-    kind_at-numbered entry.group.types j
+    kind_at-numbered entry.hash_consing_key.types j
     ∙ ap (λ (ts : List WasmSubType). kind_at ts j) same
     ∙ kind_at-changed f types j
     ∙ sym (slice_get-map member_kind types j)

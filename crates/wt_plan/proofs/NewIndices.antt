@@ -13,15 +13,15 @@ use Rattle.wt_keys.specs.Keys.{IsNewKey}
 use Rattle.wt_plan.specs.Planned.{AreNewBelow}
 
 -- so many types, with one more group
-used-pushed : (entries : List RecGroupEntry) (entry : RecGroupEntry) → length (used (made_by (entries ++ entry ∷ []))) ≡ length (used (made_by entries)) + length entry.indices
+used-pushed : (entries : List RecGroupEntry) (entry : RecGroupEntry) → length (used (made_by (entries ++ entry ∷ []))) ≡ length (used (made_by entries)) + length entry.shared_type_indices
 used-pushed entries entry =
     ap (λ made. length (used made)) (map-append made_of entries (entry ∷ []))
     ∙ ap length (flat_map-append (λ (m : RegisteredGroup). map (λ i. i.0) m.indices) (made_by entries) (made_of entry ∷ []))
     ∙ length-append (used (made_by entries)) (used (made_of entry ∷ []))
-    ∙ ap (λ n. length (used (made_by entries)) + n) (length-append (map (λ (i : VMSharedTypeIndex). i.0) entry.indices) [] ∙ last)
+    ∙ ap (λ n. length (used (made_by entries)) + n) (length-append (map (λ (i : VMSharedTypeIndex). i.0) entry.shared_type_indices) [] ∙ last)
   where
-    last : length (map (λ (i : VMSharedTypeIndex). i.0) entry.indices) + 0 ≡ length entry.indices
-    last = let same = length-map entry.indices (λ (i : VMSharedTypeIndex). i.0) in omega (arith, same)
+    last : length (map (λ (i : VMSharedTypeIndex). i.0) entry.shared_type_indices) + 0 ≡ length entry.shared_type_indices
+    last = let same = length-map entry.shared_type_indices (λ (i : VMSharedTypeIndex). i.0) in omega (arith, same)
 
 pub new_below-none : (entries : List RecGroupEntry) → AreNewBelow entries []
 new_below-none entries entry i none there = absurd none
@@ -32,9 +32,9 @@ new_below-pushed entries added top entry below new e i at there =
     by (among_pushed added entry e at) count
   where
     by : Among e added ⊎ (e ≡ entry)
-        → length (used (made_by (entries ++ (added ++ entry ∷ [])))) ≡ length (used (made_by (entries ++ added))) + length entry.indices
+        → length (used (made_by (entries ++ (added ++ entry ∷ [])))) ≡ length (used (made_by (entries ++ added))) + length entry.shared_type_indices
         → i.0 < length (used (made_by (entries ++ (added ++ entry ∷ []))))
     by (inl old) count = let before = below e i old there in omega (arith, before, count)
     by (inr same) count =
-        let own = new.within i (subst (λ (x : RecGroupEntry). Among i x.indices) same there) in
+        let own = new.within i (subst (λ (x : RecGroupEntry). Among i x.shared_type_indices) same there) in
         omega (arith, own, count)

@@ -118,7 +118,7 @@ named-kept all top entry (i ∷ indices) keys new stand =
     λ k. first k ∷ rest k
 
 -- as many indices as the group has types
-as_many : (all : List RecGroupEntry) (made : List RegisteredGroup) (entry : RecGroupEntry) (plan : PlanFields) (group : WasmRecGroup) → length entry.indices ≡ length entry.group.types → entry.group.types ≡ key_of plan group → length entry.indices ≡ length group.types
+as_many : (all : List RecGroupEntry) (made : List RegisteredGroup) (entry : RecGroupEntry) (plan : PlanFields) (group : WasmRecGroup) → length entry.shared_type_indices ≡ length entry.hash_consing_key.types → entry.hash_consing_key.types ≡ key_of plan group → length entry.shared_type_indices ≡ length group.types
 as_many all made entry plan group members same =
     members ∙ ap (λ (types : List WasmSubType). length types) same
     ∙ length-map group.types (map_sub_refs (canonical_index (length plan.map.items) plan.map.items))
@@ -145,26 +145,26 @@ plans-more entries groups first plan after group module_only plans one keys step
         ∙ ap (λ (p : Plan). plan_group p group) plans.planned
         ∙ step
 
-    own_tree : tree_of (made_by all) one.entry.group.types ≡ tree
+    own_tree : tree_of (made_by all) one.entry.hash_consing_key.types ≡ tree
     own_tree = ap (tree_of (made_by all)) one.group ∙ canonical-tree (made_by all) plan.map.items known group.types module_only plans.named
 
     trees_so_far : (made : List RegisteredGroup) → map (closed_tree made) plan.map.items ≡ map Some known
-        → ((k : ℕ) (i : VMSharedTypeIndex) → slice_get one.entry.indices k ≡ Some i → closed_tree made i ≡ Some (record { tree = tree; place = k })) → length one.entry.indices ≡ length one.entry.group.types
+        → ((k : ℕ) (i : VMSharedTypeIndex) → slice_get one.entry.shared_type_indices k ≡ Some i → closed_tree made i ≡ Some (record { tree = tree; place = k })) → length one.entry.shared_type_indices ≡ length one.entry.hash_consing_key.types
         → map (closed_tree made) after.map.items ≡ map Some (module_trees [] (groups ++ group ∷ []))
     trees_so_far made before members long =
         ap (map (closed_tree made)) one.map
-        ∙ named-joined made plan.map.items one.entry.indices known tree (length group.types) before members (as_many all made one.entry plan group long one.group)
+        ∙ named-joined made plan.map.items one.entry.shared_type_indices known tree (length group.types) before members (as_many all made one.entry plan group long one.group)
         ∙ ap (map Some) (sym (module_trees-more [] groups group))
 
     -- the entry is there after the step, and with it the kinds of the group's types
-    indices_more : Among one.entry (entries ++ after.added.items) → length one.entry.indices ≡ length group.types
+    indices_more : Among one.entry (entries ++ after.added.items) → length one.entry.shared_type_indices ≡ length group.types
     indices_more at = as_many all (made_by all) one.entry plan group (keys.keys one.entry at).members one.group
 
     count_after : Among one.entry (entries ++ after.added.items) → length after.map.items ≡ total_members (groups ++ group ∷ [])
     count_after at =
         let more = indices_more at in
         ap length one.map
-        ∙ length-append plan.map.items one.entry.indices
+        ∙ length-append plan.map.items one.entry.shared_type_indices
         ∙ (λ i. plans.count i + more i)
         ∙ sym (total_members-more groups group)
 
@@ -179,8 +179,8 @@ plans-more entries groups first plan after group module_only plans one keys step
         let kinds : kinds_of groups ++ map member_kind group.types ≡ kinds_of (groups ++ group ∷ []) =
         ap (λ (more : List Kind). kinds_of groups ++ more) (sym (append-nil (map member_kind group.types))) ∙ sym (kinds_of-append groups (group ∷ [])) in
         subst (λ (indices : List VMSharedTypeIndex). AreOfKinds made indices (kinds_of (groups ++ group ∷ []))) (sym one.map)
-        (subst (AreOfKinds made (plan.map.items ++ one.entry.indices)) kinds
-        (of_kinds-joined made plan.map.items one.entry.indices (kinds_of groups) (map member_kind group.types) long before own))
+        (subst (AreOfKinds made (plan.map.items ++ one.entry.shared_type_indices)) kinds
+        (of_kinds-joined made plan.map.items one.entry.shared_type_indices (kinds_of groups) (map member_kind group.types) long before own))
 
     -- the group was there
     found : (after.added.items ≡ plan.added.items) → Among one.entry all → Plans entries (groups ++ group ∷ []) first after
@@ -233,7 +233,7 @@ plans-more entries groups first plan after group module_only plans one keys step
         }
 
     by : ((after.added.items ≡ plan.added.items) × Among one.entry all × (after.given.numbers ≡ plan.given.numbers))
-        ⊎ ((after.added.items ≡ plan.added.items ++ one.entry ∷ []) × IsNewKey all plan.given.numbers one.entry × (after.given.numbers ≡ plan.given.numbers + 1) × (one.entry.shown ≡ map_group_refs (own_shown one.entry.indices) one.entry.group.types))
+        ⊎ ((after.added.items ≡ plan.added.items ++ one.entry ∷ []) × IsNewKey all plan.given.numbers one.entry × (after.given.numbers ≡ plan.given.numbers + 1) × (one.entry.runtime_types ≡ map_group_refs (own_shown one.entry.shared_type_indices) one.entry.hash_consing_key.types))
         → Plans entries (groups ++ group ∷ []) first after
     by (inl was) = found was.0 was.1
-    by (inr is) = added is.0 is.1 (λ e there. elim there [ inl same ↦ subst (λ (x : RecGroupEntry). x.shown ≡ map_group_refs (own_shown x.indices) x.group.types) (sym same) is.3 | inr none ↦ absurd none ])
+    by (inr is) = added is.0 is.1 (λ e there. elim there [ inl same ↦ subst (λ (x : RecGroupEntry). x.runtime_types ≡ map_group_refs (own_shown x.shared_type_indices) x.hash_consing_key.types) (sym same) is.3 | inr none ↦ absurd none ])

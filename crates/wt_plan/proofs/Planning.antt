@@ -24,7 +24,7 @@ groups_of-joined entries plan = sym (map-append made_of entries plan.added.items
 -- what the search by keys finds is what is planned
 planned-by_key : (entries : List RecGroupEntry) (plan : PlanFields) (key : WasmRecGroup) (found : Option RecGroupEntry)
     → AreKeys (entries ++ plan.added.items) plan.given.numbers → AreNamed (made_by (entries ++ plan.added.items)) key.types
-    → find (λ entry. rec_group_eq entry.group key) (entries ++ plan.added.items) ≡ found
+    → find (λ entry. rec_group_eq entry.hash_consing_key key) (entries ++ plan.added.items) ≡ found
     → plan_key (plan_of entries plan) key.types ≡ planned (plan_of entries plan) (describe (made_by (entries ++ plan.added.items)) key.types) (option_map made_of found)
 planned-by_key entries plan key found keys named is =
     let all = entries ++ plan.added.items in
@@ -37,9 +37,9 @@ planned-by_key entries plan key found keys named is =
 
 pub planned-found : (entries : List RecGroupEntry) (plan after : PlanFields) (key : WasmRecGroup) (entry : RecGroupEntry)
     → AreKeys (entries ++ plan.added.items) plan.given.numbers → AreNamed (made_by (entries ++ plan.added.items)) key.types
-    → find (λ e. rec_group_eq e.group key) (entries ++ plan.added.items) ≡ Some entry
+    → find (λ e. rec_group_eq e.hash_consing_key key) (entries ++ plan.added.items) ≡ Some entry
     → after.added.items ≡ plan.added.items → after.given ≡ plan.given
-    → after.numbers.items ≡ plan.numbers.items ++ entry.number ∷ [] → after.map.items ≡ plan.map.items ++ entry.indices
+    → after.numbers.items ≡ plan.numbers.items ++ entry.number ∷ [] → after.map.items ≡ plan.map.items ++ entry.shared_type_indices
     → plan_key (plan_of entries plan) key.types ≡ plan_of entries after
 planned-found entries plan after key entry keys named is added given numbers map_after =
     planned-by_key entries plan key (Some entry) keys named is
@@ -65,17 +65,17 @@ new-made entries plan key entry is =
 
 pub planned-new : (entries : List RecGroupEntry) (plan after : PlanFields) (key : WasmRecGroup) (entry : RecGroupEntry)
     → AreKeys (entries ++ plan.added.items) plan.given.numbers → AreNamed (made_by (entries ++ plan.added.items)) key.types
-    → find (λ e. rec_group_eq e.group key) (entries ++ plan.added.items) ≡ None
+    → find (λ e. rec_group_eq e.hash_consing_key key) (entries ++ plan.added.items) ≡ None
     → made_of entry ≡ record { number = plan.given.numbers + 1; description = describe (made_by (entries ++ plan.added.items)) key.types; indices = assign_shared_type_indices (length key.types) (used (made_by (entries ++ plan.added.items))) }
     → after.added.items ≡ plan.added.items ++ entry ∷ []
-    → after.given ≡ record { numbers = plan.given.numbers + 1; types = plan.given.types + length entry.indices; references = plan.given.references + length entry.outer }
-    → after.numbers.items ≡ plan.numbers.items ++ entry.number ∷ [] → after.map.items ≡ plan.map.items ++ entry.indices
+    → after.given ≡ record { numbers = plan.given.numbers + 1; types = plan.given.types + length entry.shared_type_indices; references = plan.given.references + length entry.outer }
+    → after.numbers.items ≡ plan.numbers.items ++ entry.number ∷ [] → after.map.items ≡ plan.map.items ++ entry.shared_type_indices
     → plan_key (plan_of entries plan) key.types ≡ plan_of entries after
 planned-new entries plan after key entry keys named none is added given numbers map_after =
     let made = made_by (entries ++ plan.added.items) in
     let description = describe made key.types in
     let new = new-made entries plan key entry is in
-    let members : length (made_of entry).description.members ≡ length entry.indices =
+    let members : length (made_of entry).description.members ≡ length entry.shared_type_indices =
     ap (λ (m : RegisteredGroup). length m.description.members) is
     ∙ length-number_group key.types ∙ sym (length-assign_shared_type_indices (length key.types) (used made)) ∙ ap (λ (m : RegisteredGroup). length m.indices) (sym is) in
     let leads : length (map (λ reference. reference.0) entry.outer) ≡ length entry.outer = length-map entry.outer (λ (reference : ℕ × ℕ). reference.0) in

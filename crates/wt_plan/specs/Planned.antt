@@ -29,15 +29,15 @@ plan_of entries plan = record {
 -- each index of an entry that is new is below the number of all types
 abbrev pub AreNewBelow : List RecGroupEntry → List RecGroupEntry → Type 0
 AreNewBelow entries added =
-    (entry : RecGroupEntry) (i : VMSharedTypeIndex) → Among entry added → Among i entry.indices
+    (entry : RecGroupEntry) (i : VMSharedTypeIndex) → Among entry added → Among i entry.shared_type_indices
     → i.0 < length (used (made_by (entries ++ added)))
 
 -- One more group was planned: an entry that has these types as its key, which was there, or which is new.
 pub record PlansOne (entries : List RecGroupEntry) (before after : PlanFields) (types : List WasmSubType) : Type 0 where
   pub entry : RecGroupEntry
-  pub group : entry.group.types ≡ types
+  pub group : entry.hash_consing_key.types ≡ types
   pub numbers : after.numbers.items ≡ before.numbers.items ++ entry.number ∷ []
-  pub map : after.map.items ≡ before.map.items ++ entry.indices
+  pub map : after.map.items ≡ before.map.items ++ entry.shared_type_indices
   pub stands : ((after.added.items ≡ before.added.items) × Among entry (entries ++ before.added.items) × (after.given.numbers ≡ before.given.numbers))
       ⊎ ((after.added.items ≡ before.added.items ++ entry ∷ []) × IsNewKey (entries ++ before.added.items) before.given.numbers entry × (after.given.numbers ≡ before.given.numbers + 1)
-      × (entry.shown ≡ map_group_refs (own_shown entry.indices) entry.group.types))
+      × (entry.runtime_types ≡ map_group_refs (own_shown entry.shared_type_indices) entry.hash_consing_key.types))

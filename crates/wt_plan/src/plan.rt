@@ -63,7 +63,7 @@ fn find_planned<'a>(
     added: &'a [RecGroupEntry],
     key: &WasmRecGroup,
 ) -> Option<&'a RecGroupEntry>
-    ensures { option_copied result ≡ find (λ entry. rec_group_eq entry.group key.now) (entries.now ++ added.now) }
+    ensures { option_copied result ≡ find (λ entry. rec_group_eq entry.hash_consing_key key.now) (entries.now ++ added.now) }
 {
     match find_group(entries, key) {
         Some(entry) => Some(entry),
@@ -122,7 +122,7 @@ fn locate_in(
     ensures { IfOk result (λ at. at ≡ locate (made_by entries.now) index) }
 {
     for entry in entries {
-        if let Some(place) = place_of(entry.indices.as_slice(), index) {
+        if let Some(place) = place_of(entry.shared_type_indices.as_slice(), index) {
             return match u32::try_from(place) {
                 Ok(place) => Ok(Some((entry.number, place))),
                 Err(_) => Err(OutOfMemory),
@@ -211,15 +211,15 @@ fn new_entry(
     requires keys { AreKeys (entries.now ++ added.now) numbers }
     requires named { AreNamed (made_by (entries.now ++ added.now)) key.types }
     requires kinds { KeyNamesTypes (made_by (entries.now ++ added.now)) key.types }
-    requires new { find (λ entry. rec_group_eq entry.group key) (entries.now ++ added.now) ≡ None }
+    requires new { find (λ entry. rec_group_eq entry.hash_consing_key key) (entries.now ++ added.now) ≡ None }
     ensures key { IfOk result (λ entry. IsNewKey (entries.now ++ added.now) numbers entry) }
     ensures made { IfOk result (λ entry. made_of entry ≡ record {
       number = numbers + 1;
       description = describe (made_by (entries.now ++ added.now)) key.types;
       indices = free_indices_of (length key.types) (used (made_by (entries.now ++ added.now)));
     }) }
-    ensures group { IfOk result (λ entry. entry.group ≡ key) }
-    ensures shown { IfOk result (λ entry. entry.shown ≡ group_over (own_shown entry.indices) entry.group.types) }
+    ensures group { IfOk result (λ entry. entry.hash_consing_key ≡ key) }
+    ensures shown { IfOk result (λ entry. entry.runtime_types ≡ group_over (own_shown entry.shared_type_indices) entry.hash_consing_key.types) }
 {
     let number = numbers.checked_add(1).ok_or(OutOfMemory)?;
     let outer = outer_of(alloc, entries, added, key.types.as_slice())?;
@@ -227,10 +227,10 @@ fn new_entry(
     let shown = shown_members(alloc, indices.as_slice(), key.types.as_slice())?;
     Ok(RecGroupEntry {
         number,
-        group: key,
-        shown,
+        hash_consing_key: key,
+        runtime_types: shown,
         outer,
-        indices,
+        shared_type_indices: indices,
     })
 }
 
@@ -259,10 +259,10 @@ fn add_occurrence(
     entry: &RecGroupEntry,
 ) -> Result<(), OutOfMemory>
     ensures numbers { OnOk result (numbers.new.items ≡ numbers.old.items ++ entry.now.number ∷ []) }
-    ensures map { OnOk result (map.new.items ≡ map.old.items ++ entry.now.indices) }
+    ensures map { OnOk result (map.new.items ≡ map.old.items ++ entry.now.shared_type_indices) }
 {
     numbers.push(entry.number)?;
-    map.extend_from_slice(entry.indices.as_slice())?;
+    map.extend_from_slice(entry.shared_type_indices.as_slice())?;
     Ok(())
 }
 
@@ -291,7 +291,11 @@ pub fn plan_key(
         plan.given.numbers,
         key,
     )?;
-    plan.given = one_more(plan.given, entry.indices.len(), entry.outer.len())?;
+    plan.given = one_more(
+        plan.given,
+        entry.shared_type_indices.len(),
+        entry.outer.len(),
+    )?;
     add_occurrence(&mut plan.numbers, &mut plan.map, &entry)?;
     plan.added.push(entry)?;
     Ok(())

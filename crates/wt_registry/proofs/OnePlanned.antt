@@ -52,11 +52,11 @@ plain-named made types ty plain is = ([], ap (map (named_at made)) (ap group_ref
 
 pub record OnePlanned (entries : List RecGroupEntry) (top : ℕ) (after : PlanFields) (types : List WasmSubType) : Type 0 where
   pub entry : RecGroupEntry
-  pub group : entry.group.types ≡ types
+  pub group : entry.hash_consing_key.types ≡ types
   pub numbers : after.numbers.items ≡ entry.number ∷ []
-  pub map : after.map.items ≡ entry.indices
+  pub map : after.map.items ≡ entry.shared_type_indices
   pub stands : ((after.added.items ≡ []) × Among entry entries)
-      ⊎ ((after.added.items ≡ entry ∷ []) × IsNewKey entries top entry × (entry.shown ≡ map_group_refs (own_shown entry.indices) entry.group.types))
+      ⊎ ((after.added.items ≡ entry ∷ []) × IsNewKey entries top entry × (entry.runtime_types ≡ map_group_refs (own_shown entry.shared_type_indices) entry.hash_consing_key.types))
 
 pub one-planned : (entries : List RecGroupEntry) (top : ℕ) (before after : PlanFields) (types : List WasmSubType) → PlansOne entries before after types
     → before.added.items ≡ [] → before.numbers.items ≡ [] → before.map.items ≡ [] → before.given.numbers ≡ top → OnePlanned entries top after types
@@ -64,7 +64,7 @@ one-planned entries top before after types one added numbers indices given = rec
   entry = one.entry;
   group = one.group;
   numbers = one.numbers ∙ ap (λ (ns : List ℕ). ns ++ one.entry.number ∷ []) numbers;
-  map = one.map ∙ ap (λ (is : List VMSharedTypeIndex). is ++ one.entry.indices) indices;
+  map = one.map ∙ ap (λ (is : List VMSharedTypeIndex). is ++ one.entry.shared_type_indices) indices;
   stands = by one.stands;
 }
   where
@@ -73,9 +73,9 @@ one-planned entries top before after types one added numbers indices given = rec
 
     by : ((after.added.items ≡ before.added.items) × Among one.entry (entries ++ before.added.items) × (after.given.numbers ≡ before.given.numbers))
         ⊎ ((after.added.items ≡ before.added.items ++ one.entry ∷ []) × IsNewKey (entries ++ before.added.items) before.given.numbers one.entry × (after.given.numbers ≡ before.given.numbers + 1)
-        × (one.entry.shown ≡ map_group_refs (own_shown one.entry.indices) one.entry.group.types))
+        × (one.entry.runtime_types ≡ map_group_refs (own_shown one.entry.shared_type_indices) one.entry.hash_consing_key.types))
         → ((after.added.items ≡ []) × Among one.entry entries)
-        ⊎ ((after.added.items ≡ one.entry ∷ []) × IsNewKey entries top one.entry × (one.entry.shown ≡ map_group_refs (own_shown one.entry.indices) one.entry.group.types))
+        ⊎ ((after.added.items ≡ one.entry ∷ []) × IsNewKey entries top one.entry × (one.entry.runtime_types ≡ map_group_refs (own_shown one.entry.shared_type_indices) one.entry.hash_consing_key.types))
     by (inl s) = inl (s.0 ∙ added, subst (Among one.entry) all s.1)
     by (inr s) = inr (
       s.0 ∙ ap (λ (more : List RecGroupEntry). more ++ one.entry ∷ []) added,
@@ -89,7 +89,7 @@ module _ (entries : List RecGroupEntry) (top : ℕ) (after : PlanFields) (types 
   entry-among = by one.stands
     where
       by : ((after.added.items ≡ []) × Among one.entry entries)
-          ⊎ ((after.added.items ≡ one.entry ∷ []) × IsNewKey entries top one.entry × (one.entry.shown ≡ map_group_refs (own_shown one.entry.indices) one.entry.group.types))
+          ⊎ ((after.added.items ≡ one.entry ∷ []) × IsNewKey entries top one.entry × (one.entry.runtime_types ≡ map_group_refs (own_shown one.entry.shared_type_indices) one.entry.hash_consing_key.types))
           → Among one.entry (entries ++ after.added.items)
       by (inl s) = subst (λ more. Among one.entry (entries ++ more)) (sym s.0) (subst (Among one.entry) (sym (append-nil entries)) s.1)
       by (inr s) = subst (λ more. Among one.entry (entries ++ more)) (sym s.0) (among_last entries one.entry)
@@ -102,7 +102,7 @@ module _ (entries : List RecGroupEntry) (top : ℕ) (after : PlanFields) (types 
       only (inr none) = absurd none
 
       by : ((after.added.items ≡ []) × Among one.entry entries)
-          ⊎ ((after.added.items ≡ one.entry ∷ []) × IsNewKey entries top one.entry × (one.entry.shown ≡ map_group_refs (own_shown one.entry.indices) one.entry.group.types))
+          ⊎ ((after.added.items ≡ one.entry ∷ []) × IsNewKey entries top one.entry × (one.entry.runtime_types ≡ map_group_refs (own_shown one.entry.shared_type_indices) one.entry.hash_consing_key.types))
           → entry ≡ one.entry
       by (inl s) = absurd (subst (Among entry) s.0 at)
       by (inr s) = only (subst (Among entry) s.0 at)
@@ -124,7 +124,7 @@ module _ (entries : List RecGroupEntry) (top : ℕ) (after : PlanFields) (types 
   one-below = by one.stands
     where
       by : ((after.added.items ≡ []) × Among one.entry entries)
-          ⊎ ((after.added.items ≡ one.entry ∷ []) × IsNewKey entries top one.entry × (one.entry.shown ≡ map_group_refs (own_shown one.entry.indices) one.entry.group.types))
+          ⊎ ((after.added.items ≡ one.entry ∷ []) × IsNewKey entries top one.entry × (one.entry.runtime_types ≡ map_group_refs (own_shown one.entry.shared_type_indices) one.entry.hash_consing_key.types))
           → AreNewBelow entries after.added.items
       by (inl s) = subst (AreNewBelow entries) (sym s.0) (new_below-none entries)
       by (inr s) = subst (AreNewBelow entries) (sym s.0)
@@ -132,7 +132,7 @@ module _ (entries : List RecGroupEntry) (top : ℕ) (after : PlanFields) (types 
 
   -- the first index is that of the entry's first type
   module _ (keys : AreKeys entries top) (given : ℕ) (all : AreKeys (entries ++ after.added.items) given) (index : VMSharedTypeIndex) (first : slice_get after.map.items 0 ≡ Some index) where
-    first-index : slice_get one.entry.indices 0 ≡ Some index
+    first-index : slice_get one.entry.shared_type_indices 0 ≡ Some index
     first-index = ap (λ (is : List VMSharedTypeIndex). slice_get is 0) (sym one.map) ∙ first
 
     -- it is located in that group
@@ -146,7 +146,7 @@ module _ (entries : List RecGroupEntry) (top : ℕ) (after : PlanFields) (types 
     one-named = by one.stands
       where
         by : ((after.added.items ≡ []) × Among one.entry entries)
-            ⊎ ((after.added.items ≡ one.entry ∷ []) × IsNewKey entries top one.entry × (one.entry.shown ≡ map_group_refs (own_shown one.entry.indices) one.entry.group.types))
+            ⊎ ((after.added.items ≡ one.entry ∷ []) × IsNewKey entries top one.entry × (one.entry.runtime_types ≡ map_group_refs (own_shown one.entry.shared_type_indices) one.entry.hash_consing_key.types))
             → closed_tree (made_by (entries ++ after.added.items)) index ≡ Some (record { tree = tree_of (made_by entries) types; place = 0 })
         by (inl s) =
             ap (λ (more : List RecGroupEntry). closed_tree (made_by (entries ++ more)) index) s.0

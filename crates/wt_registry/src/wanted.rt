@@ -26,7 +26,7 @@ fn types_of(entries: &[RecGroupEntry]) -> Result<u64, OutOfMemory>
     let mut count: u64 = 0;
     for entry in entries {
         count = count
-            .checked_add(entry.indices.len() as u64)
+            .checked_add(entry.shared_type_indices.len() as u64)
             .ok_or(OutOfMemory)?;
     }
     Ok(count)

@@ -22,7 +22,7 @@ use Rattle.wt_session.specs.declared.reply.Refusal.TheVariants as refusal
 use Rattle.wt_session.specs.declared.reply.Reply.{Reply}
 use Rattle.wt_session.specs.declared.reply.Reply.TheVariants as reply
 use Rattle.wt_session.specs.World.{World, party_of, row_of, type_at, debt_at, module_at, HasExactlyReached}
-use Rattle.wt_session.specs.Run.{Outcome, type_made, held_again, clone_made, root_made, hold_ended, type_dropped, debt_swept, module_made, module_released, full_of_parties, outcome_of, counts_after, done_by, sub_type_of, world_after}
+use Rattle.wt_session.specs.Run.{PartyOutcome, type_made, held_again, clone_made, root_made, hold_ended, type_dropped, debt_swept, module_made, module_released, full_of_parties, party_outcome, counts_after, done_by, sub_type_of, world_after}
 use Rattle.wt_session.proofs.BuildChecks.{not_below, step-checked}
 use Rattle.wt_session.specs.Answered.{check_of, trees_asked, index_of, is_refusal, TellsCheck, NamesTrees, IsAnswered, AreAnswered}
 
@@ -34,7 +34,7 @@ refusal-names made told (Some trees) refuses = λ accepts. absurd (false≢true 
 
 -- ---- a refused command changes nothing
 
-abbrev IsUnchanged : Registry → List Handle → Outcome → Type 0
+abbrev IsUnchanged : Registry → List Handle → PartyOutcome → Type 0
 IsUnchanged registry row outcome = is_refusal outcome.reply ≡ true → (outcome.registry ≡ registry) × (outcome.row ≡ row)
 
 accepted : {P : Type 0} → false ≡ true → P
@@ -77,7 +77,7 @@ module_released-unchanged : (registry : Registry) (row : List Handle) (party pla
 module_released-unchanged registry row party place (Some types) = accepted
 module_released-unchanged registry row party place None = λ refuses. (refl, refl)
 
-outcome-unchanged : (registry : Registry) (row : List Handle) (command : Command) → IsUnchanged registry row (outcome_of registry row command)
+outcome-unchanged : (registry : Registry) (row : List Handle) (command : Command) → IsUnchanged registry row (party_outcome registry row command)
 outcome-unchanged registry row (command.HostType by sub) = type_made-unchanged registry row (register registry by (sub_type_of sub))
 outcome-unchanged registry row (command.Module by types) = module_made-unchanged registry row (register_groups registry by types.groups)
 outcome-unchanged registry row (command.Clone by place) = clone_made-unchanged registry row by place (type_at row place)
@@ -99,7 +99,7 @@ set-own_row (row ∷ rows) (suc party) = ap (λ (rest : List (List Handle)). row
 done-unchanged : (world : World) (command : Command) → is_refusal (done_by world command).0 ≡ true → (done_by world command).1 ≡ world
 done-unchanged world command refuses =
     let party = party_of command in
-    let outcome : Outcome = outcome_of world.registry (row_of party world.handles) command in
+    let outcome : PartyOutcome = party_outcome world.registry (row_of party world.handles) command in
     let same = outcome-unchanged world.registry (row_of party world.handles) command refuses in
     let rows = ap (slice_set world.handles party) same.1 ∙ set-own_row world.handles party in
     let counts = counts-unchanged outcome.reply world.counts refuses in

@@ -17,7 +17,7 @@ use Rattle.wt_session.specs.declared.reply.Refusal.TheVariants as refusal
 use Rattle.wt_session.specs.declared.reply.Reply.{Reply}
 use Rattle.wt_session.specs.declared.reply.Reply.TheVariants as reply
 use Rattle.wt_session.specs.World.{World, party_of, row_of}
-use Rattle.wt_session.specs.Run.{Outcome, refusal_of, type_made, module_made, full_of_parties, done_by, sub_type_of}
+use Rattle.wt_session.specs.Run.{PartyOutcome, refusal_of, type_made, module_made, full_of_parties, done_by, sub_type_of}
 use Rattle.wt_session.specs.Answered.{registration_of, refusal_told, check_of, is_refusal, TellsCheck}
 
 -- ---- want of memory is no cause
@@ -65,7 +65,7 @@ told-cause why.NoGc not = refl
 told-cause (why.Full full) not = refl
 told-cause why.OutOfMemory not = absurd not
 
-checked-made : {A : Type 0} (make : Result A BuildRefusal → Outcome) (made : A) (cause : Option BuildRefusal) → IsNoWant cause → is_refusal (make (Ok made)).reply ≡ false
+checked-made : {A : Type 0} (make : Result A BuildRefusal → PartyOutcome) (made : A) (cause : Option BuildRefusal) → IsNoWant cause → is_refusal (make (Ok made)).reply ≡ false
     → ((unmet : BuildRefusal) → (make (Err unmet)).reply ≡ reply.Refused (refusal_of unmet)) → TellsCheck (make (made_unless cause made)).reply (option_map refused cause)
 checked-made make made None not accepts refuses = accepts
 checked-made make made (Some reason) not accepts refuses = (refusal_of reason, told-cause reason not, refuses reason)

@@ -12,7 +12,7 @@ use Rattle.wt_session.specs.declared.reply.Reply.{Reply}
 use Rattle.wt_session.specs.declared.reply.Reply.TheVariants as reply
 use Rattle.wt_session.specs.declared.party_handles.PartyHandles.{PartyHandles}
 use Rattle.wt_session.specs.World.{party_of, named_handles, row_of}
-use Rattle.wt_session.specs.Run.{refused, outcome_of, counts_after, with_outcome, done_by}
+use Rattle.wt_session.specs.Run.{PartyOutcome, refused, counted, party_outcome, counts_after, with_outcome, done_by}
 use Rattle.wt_session.specs.Session.{rows_of, padded, world_of, AreHandles, IsKept, Keeps}
 use Rattle.wt_session.proofs.Padding.{kept-padded, read_row, set_row, length-rows, own-row, kept-set, world-row, outcome-world, same-world, row_of-padded, none-past}
 use Rattle.wt_session.proofs.Places.{set-own}
@@ -37,7 +37,7 @@ none-named : (at : HandleKind × ℕ) → None ≡ Some at → ⊥
 none-named at h = absurd (cc)
 
 unheld : (registry : Registry) (command : Command) (kind : HandleKind) (place : ℕ) → slice_get (named_handles command) 0 ≡ Some (kind, place)
-    → outcome_of registry [] command ≡ record { reply = reply.Refused (refusal.NoSuchHandle (party_of command) kind place); registry = registry; row = [] }
+    → party_outcome registry [] command ≡ record { reply = reply.Refused (refusal.NoSuchHandle (party_of command) kind place); registry = registry; row = [] }
 unheld registry (command.HostType by sub) kind place named = absurd (none-named (kind, place) named)
 unheld registry (command.Module by types) kind place named = absurd (none-named (kind, place) named)
 unheld registry (command.Clone by at) kind place named = named_at registry by kinds.Type kind at place named
@@ -52,10 +52,10 @@ pub unheld-done : (registry : Registry) (counts : ObjectCounts) (rows : List (Li
     → done_by (world_of registry counts rows) command ≡ (reply.Refused (refusal.NoSuchHandle party kind place), world_of registry counts rows)
 unheld-done registry counts rows party command kind place by named below past kept =
     let none : row_of party (padded registry.engine.limits.parties rows) ≡ [] = row_of-padded registry.engine.limits.parties party rows ∙ none-past rows party past in
-    ap (λ (p : ℕ). with_outcome (world_of registry counts rows) p (outcome_of registry (row_of p (padded registry.engine.limits.parties rows)) command)) (sym by)
-    ∙ ap (λ (row : List Handle). with_outcome (world_of registry counts rows) party (outcome_of registry row command)) none
-    ∙ ap (with_outcome (world_of registry counts rows) party) (unheld registry command kind place named)
-    ∙ (λ i. with_outcome (world_of registry counts rows) party (record { reply = reply.Refused (refusal.NoSuchHandle (sym by i) kind place); registry = registry; row = (sym none) i }))
+    ap (λ (p : ℕ). with_outcome (world_of registry counts rows) p (counted counts (party_outcome registry (row_of p (padded registry.engine.limits.parties rows)) command))) (sym by)
+    ∙ ap (λ (row : List Handle). with_outcome (world_of registry counts rows) party (counted counts (party_outcome registry row command))) none
+    ∙ ap (λ (own : PartyOutcome). with_outcome (world_of registry counts rows) party (counted counts own)) (unheld registry command kind place named)
+    ∙ (λ i. with_outcome (world_of registry counts rows) party (counted counts (record { reply = reply.Refused (refusal.NoSuchHandle (sym by i) kind place); registry = registry; row = (sym none) i })))
     ∙ same-world registry counts rows party (refusal.NoSuchHandle party kind place) below kept.parties
 
 -- ---- rows up to the party
@@ -106,12 +106,12 @@ world-same old new counts rows party row after within is undone =
 -- the outcome on the party's row is the session's step
 pub done-written : (old new : Registry) (counts : ObjectCounts) (rows : List PartyHandles) (party : ℕ) (row after : PartyHandles) (command : Command) (told : Reply) → party < length rows → row ≡ get_or rows party row
     → party ≡ party_of command → new.engine ≡ old.engine
-    → outcome_of old row.handles.items command ≡ record { reply = told; registry = new; row = after.handles.items }
+    → party_outcome old row.handles.items command ≡ record { reply = told; registry = new; row = after.handles.items }
     → done_by (world_of old counts (rows_of rows)) command ≡ (told, world_of new (counts_after told counts) (rows_of (slice_set rows party after)))
 done-written old new counts rows party row after command told within is by engine done =
     let read = read_row rows party row within is in
-    ap (λ (p : ℕ). with_outcome (world_of old counts (rows_of rows)) p (outcome_of old (row_of p (padded old.engine.limits.parties (rows_of rows))) command)) (sym by)
-    ∙ ap (λ (own : List Handle). with_outcome (world_of old counts (rows_of rows)) party (outcome_of old own command)) (world-row old (rows_of rows) party row.handles.items read)
-    ∙ ap (with_outcome (world_of old counts (rows_of rows)) party) done
+    ap (λ (p : ℕ). with_outcome (world_of old counts (rows_of rows)) p (counted counts (party_outcome old (row_of p (padded old.engine.limits.parties (rows_of rows))) command))) (sym by)
+    ∙ ap (λ (own : List Handle). with_outcome (world_of old counts (rows_of rows)) party (counted counts (party_outcome old own command))) (world-row old (rows_of rows) party row.handles.items read)
+    ∙ ap (λ (own : PartyOutcome). with_outcome (world_of old counts (rows_of rows)) party (counted counts own)) done
     ∙ outcome-world old new counts (rows_of rows) party row.handles.items after.handles.items told read engine
     ∙ ap (λ (all : List (List Handle)). (told, world_of new (counts_after told counts) all)) (sym (set_row rows party after))

@@ -10,7 +10,7 @@ use Rattle.wt_session.specs.declared.reply.Refusal.{Refusal}
 use Rattle.wt_session.specs.declared.reply.Reply.{Reply}
 use Rattle.wt_session.specs.declared.reply.Reply.TheVariants as reply
 use Rattle.wt_session.specs.World.{row_of}
-use Rattle.wt_session.specs.Run.{refused, counts_after, with_outcome}
+use Rattle.wt_session.specs.Run.{refused, counts_after, counted, with_outcome}
 use Rattle.wt_session.specs.Session.{rows_of, padded, world_of, AreHandles, IsKept, Keeps}
 use Rattle.wt_session.proofs.HandlesKept.{held-own, still-handle}
 
@@ -141,7 +141,7 @@ pub world-row : (registry : Registry) (rows : List (List Handle)) (party : ℕ) 
 world-row registry rows party row is = row_of-row rows (replicate (registry.engine.limits.parties - length rows) []) party row is
 
 pub outcome-world : (old new : Registry) (counts : ObjectCounts) (rows : List (List Handle)) (party : ℕ) (row row' : List Handle) (told : Reply) → slice_get rows party ≡ Some row → new.engine ≡ old.engine
-    → with_outcome (world_of old counts rows) party (record { reply = told; registry = new; row = row' }) ≡ (told, world_of new (counts_after told counts) (slice_set rows party row'))
+    → with_outcome (world_of old counts rows) party (counted counts (record { reply = told; registry = new; row = row' })) ≡ (told, world_of new (counts_after told counts) (slice_set rows party row'))
 outcome-world old new counts rows party row row' told is engine = λ i. (
   told,
   record {
@@ -153,7 +153,7 @@ outcome-world old new counts rows party row row' told is engine = λ i. (
 
 -- a refused command of a party without handles changes nothing
 pub same-world : (registry : Registry) (counts : ObjectCounts) (rows : List (List Handle)) (party : ℕ) (why : Refusal) → party < registry.engine.limits.parties → length rows ≤ registry.engine.limits.parties
-    → with_outcome (world_of registry counts rows) party (refused registry (row_of party (padded registry.engine.limits.parties rows)) why) ≡ (reply.Refused why, world_of registry counts rows)
+    → with_outcome (world_of registry counts rows) party (counted counts (refused registry (row_of party (padded registry.engine.limits.parties rows)) why)) ≡ (reply.Refused why, world_of registry counts rows)
 same-world registry counts rows party why below within =
     let parties = registry.engine.limits.parties in
     let long : party < length (padded parties rows) = omega (arith, length-append rows (replicate (parties - length rows) []), length-none (parties - length rows), below, within) in

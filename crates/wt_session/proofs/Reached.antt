@@ -11,7 +11,8 @@ use Rattle.wt_session.specs.declared.counts.ObjectCounts.{ObjectCounts}
 use Rattle.wt_session.specs.declared.handle.Handle.{Handle}
 use Rattle.wt_session.specs.World.{held_in, holds, row_of, HasExactlyReached}
 use Rattle.wt_session.specs.Session.{padded, world_of, IsKept}
-use Rattle.wt_session.proofs.Times.{among_left, among_right, among_either, among-times, times-among}
+use Rattle.wt_env.proofs.lists.Members.{among_before, among_behind, among_either}
+use Rattle.wt_session.proofs.Times.{among-times, times-among}
 
 abbrev held_rows : List (List Handle) → List ℕ
 held_rows rows = flat_map held_in rows
@@ -32,8 +33,8 @@ held-padded parties rows =
 
 row-holds : (rows : List (List Handle)) (party number : ℕ) → Among number (held_in (row_of party rows)) → Among number (held_rows rows)
 row-holds [] party number at = absurd at
-row-holds (row ∷ rows) zero number at = among_left (held_in row) (held_rows rows) number at
-row-holds (row ∷ rows) (suc party) number at = among_right (held_in row) (held_rows rows) number (row-holds rows party number at)
+row-holds (row ∷ rows) zero number at = among_before (held_in row) (held_rows rows) number at
+row-holds (row ∷ rows) (suc party) number at = among_behind (held_in row) (held_rows rows) number (row-holds rows party number at)
 
 holds-row : (rows : List (List Handle)) (number : ℕ) → Among number (held_rows rows) → (party : ℕ) × Among number (held_in (row_of party rows))
 holds-row [] number at = absurd at
@@ -51,9 +52,9 @@ root-reached : (registry : Registry) (counts : ObjectCounts) (rows : List (List 
 root-reached registry counts rows kept root (inl held) =
     let counted = (kept.handles held.0).counted root in
     let mine = times-among root (held_in (row_of held.0 rows)) (subst (λ (n : ℕ). 1 ≤ n) counted held.1) in
-    among_left (holds (world_of registry counts rows)) (waiting registry.standings) root
+    among_before (holds (world_of registry counts rows)) (waiting registry.standings) root
     (subst (Among root) (sym (held-padded registry.engine.limits.parties rows)) (row-holds rows held.0 root mine))
-root-reached registry counts rows kept root (inr waits) = among_right (holds (world_of registry counts rows)) (waiting registry.standings) root waits
+root-reached registry counts rows kept root (inr waits) = among_behind (holds (world_of registry counts rows)) (waiting registry.standings) root waits
 
 reached-root : (registry : Registry) (counts : ObjectCounts) (rows : List (List Handle)) → IsKept registry rows → (root : ℕ) → Among root (holds (world_of registry counts rows) ++ waiting registry.standings) → IsRoot registry root
 reached-root registry counts rows kept root at =

@@ -3,26 +3,13 @@ use Rattle.std.proofs.Common.{◌≡◌, ℕ, zero, suc, ◌+◌, ◌<◌, ◌�
 use Rattle.std.proofs.lemmas.Grind.{flat_map-append}
 use Rattle.std.proofs.lemmas.List.{append-nil}
 use Rattle.wt_env.specs.Among.{Among}
+use Rattle.wt_env.proofs.lists.Members.{among_before, among_behind}
 use Rattle.wt_registry.specs.Holds.{times}
 use Rattle.wt_session.specs.declared.command.Command.{Command}
 use Rattle.wt_session.specs.declared.handle.Handle.{Handle}
 use Rattle.wt_session.specs.World.{numbers_held, held_in}
 
 -- ---- lists
-
-pub among_left : {A : Type 0} (xs ys : List A) (x : A) → Among x xs → Among x (xs ++ ys)
-among_left [] ys x at = absurd at
-among_left (y ∷ xs) ys x (inl same) = inl same
-among_left (y ∷ xs) ys x (inr later) = inr (among_left xs ys x later)
-
-pub among_right : {A : Type 0} (xs ys : List A) (x : A) → Among x ys → Among x (xs ++ ys)
-among_right [] ys x at = at
-among_right (y ∷ xs) ys x at = inr (among_right xs ys x at)
-
-pub among_either : {A : Type 0} (xs ys : List A) (x : A) → Among x (xs ++ ys) → Among x xs ⊎ Among x ys
-among_either [] ys x at = inr at
-among_either (y ∷ xs) ys x (inl same) = inl (inl same)
-among_either (y ∷ xs) ys x (inr later) = elim (among_either xs ys x later) [ inl left ↦ inl (inr left) | inr right ↦ inr right ]
 
 pub among_one : {A : Type 0} (x y : A) → Among x (y ∷ []) → x ≡ y
 among_one x y (inl same) = same
@@ -95,8 +82,8 @@ times-ended n (h ∷ row) (suc place) old new is none =
 -- what a handle holds, the party's handles hold
 pub held-among : (row : List Handle) (own : Handle) (n : ℕ) → Among own row → Among n (numbers_held own) → Among n (held_in row)
 held-among [] own n at holds = absurd at
-held-among (h ∷ row) own n (inl same) holds = among_left (numbers_held h) (held_in row) n (subst (λ (first : Handle). Among n (numbers_held first)) same holds)
-held-among (h ∷ row) own n (inr later) holds = among_right (numbers_held h) (held_in row) n (held-among row own n later holds)
+held-among (h ∷ row) own n (inl same) holds = among_before (numbers_held h) (held_in row) n (subst (λ (first : Handle). Among n (numbers_held first)) same holds)
+held-among (h ∷ row) own n (inr later) holds = among_behind (numbers_held h) (held_in row) n (held-among row own n later holds)
 
 pub handle-times : (n : ℕ) (row : List Handle) (own : Handle) → Among own row → times n (numbers_held own) ≤ times n (held_in row)
 handle-times n [] own at = absurd at

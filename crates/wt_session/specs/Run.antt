@@ -49,18 +49,18 @@ sub_type_of (host_sub.Func params results) = record {
 
 -- ---- one command, on its party's handles
 
--- what a command comes to: the reply, the registry after it, and the party's handles after it
-pub record Outcome : Type 0 where
+-- what a command comes to on its party's handles: the reply, the registry after it, and those handles after it
+pub record PartyOutcome : Type 0 where
   pub reply : Reply
   pub registry : Registry
   pub row : List Handle
 
 -- a refused command changes nothing
-abbrev pub refused : Registry → List Handle → Refusal → Outcome
+abbrev pub refused : Registry → List Handle → Refusal → PartyOutcome
 refused registry row why = record { reply = reply.Refused why; registry = registry; row = row }
 
 -- one handle more, on a type
-abbrev pub with_type : List Handle → Hold → Registry → Outcome
+abbrev pub with_type : List Handle → Hold → Registry → PartyOutcome
 with_type row hold after = record { reply = reply.TypeMade (length row) hold.index.0; registry = after; row = row ++ handle.Type hold ∷ [] }
 
 -- How a reply tells why a registration is refused. Want of memory is no cause of the build checks.
@@ -71,44 +71,44 @@ refusal_of (why.Full full) = refusal.Full full
 refusal_of why.OutOfMemory = refusal.NoGc
 
 -- a registration
-abbrev pub type_made : Registry → List Handle → Result (Hold × Registry) BuildRefusal → Outcome
+abbrev pub type_made : Registry → List Handle → Result (Hold × Registry) BuildRefusal → PartyOutcome
 type_made registry row (Ok made) = with_type row made.0 made.1
 type_made registry row (Err cause) = refused registry row (refusal_of cause)
 
-abbrev pub held_again : Registry → List Handle → Hold → Result Registry Full → Outcome
+abbrev pub held_again : Registry → List Handle → Hold → Result Registry Full → PartyOutcome
 held_again registry row hold (Ok after) = with_type row hold after
 held_again registry row hold (Err full) = refused registry row (refusal.Full full)
 
 -- one handle more on the type of a handle
-abbrev pub clone_made : Registry → List Handle → ℕ → ℕ → Option Hold → Outcome
+abbrev pub clone_made : Registry → List Handle → ℕ → ℕ → Option Hold → PartyOutcome
 clone_made registry row party place (Some hold) = held_again registry row hold (held registry party hold.number)
 clone_made registry row party place None = refused registry row (refusal.NoSuchHandle party kind.Type place)
 
 -- a handle on the type that has an index
-abbrev pub root_made : Registry → List Handle → Result (Option Hold × Registry) Full → Outcome
+abbrev pub root_made : Registry → List Handle → Result (Option Hold × Registry) Full → PartyOutcome
 root_made registry row (Ok (Some hold, after)) = with_type row hold after
 root_made registry row (Ok (None, after)) = record { reply = reply.NoneFound; registry = after; row = row }
 root_made registry row (Err full) = refused registry row (refusal.Full full)
 
-abbrev pub hold_ended : List Handle → ℕ → Option ℕ × Registry → Outcome
+abbrev pub hold_ended : List Handle → ℕ → Option ℕ × Registry → PartyOutcome
 hold_ended row place (Some number, after) = record { reply = reply.Owed; registry = after; row = slice_set row place (handle.Owed number) }
 hold_ended row place (None, after) = record { reply = reply.Dropped; registry = after; row = slice_set row place handle.Ended }
 
 -- the end of a handle on a type
-abbrev pub type_dropped : Registry → List Handle → ℕ → ℕ → Option Hold → Outcome
+abbrev pub type_dropped : Registry → List Handle → ℕ → ℕ → Option Hold → PartyOutcome
 type_dropped registry row party place (Some hold) = hold_ended row place (dropped registry party hold.number)
 type_dropped registry row party place None = refused registry row (refusal.NoSuchHandle party kind.Type place)
 
-abbrev pub debt_ended : List Handle → ℕ → Swept × Registry → Outcome
+abbrev pub debt_ended : List Handle → ℕ → Swept × Registry → PartyOutcome
 debt_ended row place (did, after) = record { reply = reply.Swept did; registry = after; row = slice_set row place handle.Ended }
 
 -- the sweep of a debt
-abbrev pub debt_swept : Registry → List Handle → ℕ → ℕ → Option ℕ → Outcome
+abbrev pub debt_swept : Registry → List Handle → ℕ → ℕ → Option ℕ → PartyOutcome
 debt_swept registry row party place (Some number) = debt_ended row place (swept registry number)
 debt_swept registry row party place None = refused registry row (refusal.NoSuchHandle party kind.Debt place)
 
 -- the registration of a module's groups
-abbrev pub module_made : Registry → List Handle → Result (Collection × Registry) BuildRefusal → Outcome
+abbrev pub module_made : Registry → List Handle → Result (Collection × Registry) BuildRefusal → PartyOutcome
 module_made registry row (Ok made) = record {
   reply = reply.Module (length row) (map (λ i. i.0) made.0.map);
   registry = made.1;
@@ -117,7 +117,7 @@ module_made registry row (Ok made) = record {
 module_made registry row (Err cause) = refused registry row (refusal_of cause)
 
 -- the end of a handle on a module
-abbrev pub module_released : Registry → List Handle → ℕ → ℕ → Option Collection → Outcome
+abbrev pub module_released : Registry → List Handle → ℕ → ℕ → Option Collection → PartyOutcome
 module_released registry row party place (Some types) = record {
   reply = reply.Released;
   registry = release_holds registry party types.numbers;
@@ -125,16 +125,16 @@ module_released registry row party place (Some types) = record {
 }
 module_released registry row party place None = refused registry row (refusal.NoSuchHandle party kind.Module place)
 
--- What a command comes to, for a party below the limit that has these handles.
-abbrev pub outcome_of : Registry → List Handle → Command → Outcome
-outcome_of registry row (command.HostType by sub) = type_made registry row (register registry by (sub_type_of sub))
-outcome_of registry row (command.Module by types) = module_made registry row (register_groups registry by types.groups)
-outcome_of registry row (command.Clone by place) = clone_made registry row by place (type_at row place)
-outcome_of registry row (command.Root by index) = root_made registry row (rooted registry by (record { 0 = index }))
-outcome_of registry row (command.Drop by place) = type_dropped registry row by place (type_at row place)
-outcome_of registry row (command.Sweep by place) = debt_swept registry row by place (debt_at row place)
-outcome_of registry row (command.Release by place) = module_released registry row by place (module_at row place)
-outcome_of registry row (command.Live by) = record { reply = reply.Live (live_of registry.made); registry = registry; row = row }
+-- The same for a party below the limit that has these handles.
+abbrev pub party_outcome : Registry → List Handle → Command → PartyOutcome
+party_outcome registry row (command.HostType by sub) = type_made registry row (register registry by (sub_type_of sub))
+party_outcome registry row (command.Module by types) = module_made registry row (register_groups registry by types.groups)
+party_outcome registry row (command.Clone by place) = clone_made registry row by place (type_at row place)
+party_outcome registry row (command.Root by index) = root_made registry row (rooted registry by (record { 0 = index }))
+party_outcome registry row (command.Drop by place) = type_dropped registry row by place (type_at row place)
+party_outcome registry row (command.Sweep by place) = debt_swept registry row by place (debt_at row place)
+party_outcome registry row (command.Release by place) = module_released registry row by place (module_at row place)
+party_outcome registry row (command.Live by) = record { reply = reply.Live (live_of registry.made); registry = registry; row = row }
 
 -- ---- commands in turn
 
@@ -151,20 +151,39 @@ abbrev pub counts_after : Reply → ObjectCounts → ObjectCounts
 counts_after (reply.Module place indices) counts = record counts { modules = raised counts.modules }
 counts_after other counts = counts
 
+-- What a command comes to: the reply, and after it the registry, the party's handles, and what was made so far.
+pub record Outcome : Type 0 where
+  pub reply : Reply
+  pub registry : Registry
+  pub row : List Handle
+  pub counts : ObjectCounts
+
+abbrev pub counted : ObjectCounts → PartyOutcome → Outcome
+counted counts own = record {
+  reply = own.reply;
+  registry = own.registry;
+  row = own.row;
+  counts = counts_after own.reply counts;
+}
+
+-- the same of a party below the limit that has these handles, where so much was made before
+abbrev pub outcome_of : Registry → ObjectCounts → List Handle → Command → Outcome
+outcome_of registry counts row command = counted counts (party_outcome registry row command)
+
 abbrev pub with_outcome : World → ℕ → Outcome → Reply × World
 with_outcome world party outcome = (
   outcome.reply,
   record {
     registry = outcome.registry;
     handles = slice_set world.handles party outcome.row;
-    counts = counts_after outcome.reply world.counts;
+    counts = outcome.counts;
   },
 )
 
 -- the reply to a command by a party below the limit, and the session after it
 abbrev pub done_by : World → Command → Reply × World
 done_by world command =
-    with_outcome world (party_of command) (outcome_of world.registry (row_of (party_of command) world.handles) command)
+    with_outcome world (party_of command) (outcome_of world.registry world.counts (row_of (party_of command) world.handles) command)
 
 -- The reply to one command, and the session after it.
 abbrev pub step : World → Command → Reply × World

@@ -2,7 +2,7 @@
 
 ghost use Rattle.std.specs.Prelude.{◌≡◌, ◌<◌, false, IfOk, OnErr, IsOk};
 ghost use Rattle.wt_session.specs.World.{party_of, takes_memory, IsCommand};
-ghost use Rattle.wt_session.specs.Run.{outcome_of, done_by};
+ghost use Rattle.wt_session.specs.Run.{party_outcome, done_by};
 ghost use Rattle.wt_session.specs.Answered.{trees_asked, NamesTrees};
 ghost use Rattle.wt_session.specs.Session.{rows_of, world_of, AreHandles, IsKept, Keeps};
 
@@ -32,7 +32,7 @@ fn run_command(
     requires by { party.old ≡ party_of command.now }
     requires below { party.old < registry.old.engine.limits.parties }
     requires handles { AreHandles registry.old party.old row.old.items }
-    ensures ok { IfOk result (λ reply. outcome_of registry.old row.old.items command.now
+    ensures ok { IfOk result (λ reply. party_outcome registry.old row.old.items command.now
         ≡ record { reply = reply; registry = registry.new; row = row.new.items }) }
     ensures named { IfOk result (λ reply. NamesTrees registry.new.made reply (trees_asked registry.old command.now)) }
     ensures err { OnErr result ((registry.new ≡ registry.old) × (row.new.items ≡ row.old.items)) }

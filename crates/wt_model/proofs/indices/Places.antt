@@ -20,7 +20,7 @@ get_passed : (passed : List VMSharedTypeIndex) (i : VMSharedTypeIndex) (rest : L
 get_passed [] i rest = refl
 get_passed (j ∷ passed) i rest = get_passed passed i rest
 
-same_index : (i j : VMSharedTypeIndex) → (j.0 == i.0) ≡ true → j ≡ i
+pub same_index : (i j : VMSharedTypeIndex) → (j.0 == i.0) ≡ true → j ≡ i
 same_index i j same =
     let bits : j.0 ≡ i.0 = grind (arith, same) in
     ap (λ (n : ℕ). record { 0 = n }) bits

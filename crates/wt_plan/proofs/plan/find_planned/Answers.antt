@@ -5,7 +5,7 @@ use Rattle.wt_plan.proofs.Joined.{find_first, find_second}
 use Rattle.wt_plan.proofs.plan.find_planned.Goals as goal
 
 pub returns-in-Some : goal.returns-in-Some
-returns-in-Some c = find_first (λ entry. rec_group_eq entry.group c.args.key.now) c.args.entries.now c.args.added.now c.in-Some.entry.now c.in-Some.ensures
+returns-in-Some c = find_first (λ entry. rec_group_eq entry.hash_consing_key c.args.key.now) c.args.entries.now c.args.added.now c.in-Some.entry.now c.in-Some.ensures
 
 pub returns-in-None : goal.returns-in-None
-returns-in-None c = c.find_group-in-None.ensures ∙ find_second (λ entry. rec_group_eq entry.group c.args.key.now) c.args.entries.now c.args.added.now c.in-None.ensures
+returns-in-None c = c.find_group-in-None.ensures ∙ find_second (λ entry. rec_group_eq entry.hash_consing_key c.args.key.now) c.args.entries.now c.args.added.now c.in-None.ensures

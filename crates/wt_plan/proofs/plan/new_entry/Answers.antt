@@ -12,7 +12,7 @@ use Rattle.wt_plan.proofs.plan.new_entry.Goals as goal
 pub returns-clause-key : goal.returns-clause-key
 returns-clause-key c =
     let all = c.args.entries.now ++ c.args.added.now in
-    let entry : RecGroupEntry = record { number = c.in_ok-number.number; group = c.args.key; shown = c.in_ok-shown.shown; outer = c.in_ok-outer.outer; indices = c.in_ok-indices.indices } in
+    let entry : RecGroupEntry = record { number = c.in_ok-number.number; hash_consing_key = c.args.key; runtime_types = c.in_ok-shown.shown; outer = c.in_ok-outer.outer; shared_type_indices = c.in_ok-indices.indices } in
     let number = checked_value c.checked_add.result (c.args.numbers + 1 < 18446744073709551616) (c.args.numbers + 1) entry.number c.checked_add.ensures c.in_ok-number.ensures.ok_part in
     let names = subst (λ types. Names (made_by all) types entry.outer) c.as_slice.ensures c.in_ok-outer.ensures in
     let indices = c.in_ok-indices.ensures ∙ ap (λ n. assign_shared_type_indices n (used (made_by all))) c.len.ensures in
@@ -21,7 +21,7 @@ returns-clause-key c =
 pub returns-clause-made : goal.returns-clause-made
 returns-clause-made c =
     let all = c.args.entries.now ++ c.args.added.now in
-    let entry : RecGroupEntry = record { number = c.in_ok-number.number; group = c.args.key; shown = c.in_ok-shown.shown; outer = c.in_ok-outer.outer; indices = c.in_ok-indices.indices } in
+    let entry : RecGroupEntry = record { number = c.in_ok-number.number; hash_consing_key = c.args.key; runtime_types = c.in_ok-shown.shown; outer = c.in_ok-outer.outer; shared_type_indices = c.in_ok-indices.indices } in
     let number = checked_value c.checked_add.result (c.args.numbers + 1 < 18446744073709551616) (c.args.numbers + 1) entry.number c.checked_add.ensures c.in_ok-number.ensures.ok_part in
     let names = subst (λ types. Names (made_by all) types entry.outer) c.as_slice.ensures c.in_ok-outer.ensures in
     let indices = c.in_ok-indices.ensures ∙ ap (λ n. assign_shared_type_indices n (used (made_by all))) c.len.ensures in

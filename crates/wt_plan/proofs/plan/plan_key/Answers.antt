@@ -20,8 +20,8 @@ both_ok (Ok x) p q f = f p q
 both_ok (Err e) p q f = tt
 
 -- the search among what stands and what was planned
-found_among : (entries added slice : List RecGroupEntry) (key : WasmRecGroup) (found : Option RecGroupEntry) → slice ≡ added → found ≡ find (λ e. rec_group_eq e.group key) (entries ++ slice) → find (λ e. rec_group_eq e.group key) (entries ++ added) ≡ found
-found_among entries added slice key found same is = sym (is ∙ ap (λ (more : List RecGroupEntry). find (λ e. rec_group_eq e.group key) (entries ++ more)) same)
+found_among : (entries added slice : List RecGroupEntry) (key : WasmRecGroup) (found : Option RecGroupEntry) → slice ≡ added → found ≡ find (λ e. rec_group_eq e.hash_consing_key key) (entries ++ slice) → find (λ e. rec_group_eq e.hash_consing_key key) (entries ++ added) ≡ found
+found_among entries added slice key found same is = sym (is ∙ ap (λ (more : List RecGroupEntry). find (λ e. rec_group_eq e.hash_consing_key key) (entries ++ more)) same)
 
 pub returns-in-Some-clause-ok : goal.returns-in-Some-clause-ok
 returns-in-Some-clause-ok c =
@@ -35,11 +35,11 @@ pub returns-in-Some-clause-one : goal.returns-in-Some-clause-one
 returns-in-Some-clause-one c =
     let all = c.args.entries.now ++ c.args.plan.now.added.items in
     let is = found_among c.args.entries.now c.args.plan.now.added.items c.as_slice.result.now c.args.key (Some c.in-Some.entry.now) c.as_slice.ensures.value c.in-Some.ensures in
-    let found = find-found (λ (e : RecGroupEntry). rec_group_eq e.group c.args.key) all c.in-Some.entry.now is in
+    let found = find-found (λ (e : RecGroupEntry). rec_group_eq e.hash_consing_key c.args.key) all c.in-Some.entry.now is in
     both_ok c.add_occurrence.result c.add_occurrence.ensures.numbers c.add_occurrence.ensures.map
     (λ numbers map_after. record {
       entry = c.in-Some.entry.now;
-      group = ap (λ (g : WasmRecGroup). g.types) (rec_group_eq-exact c.in-Some.entry.now.group c.args.key found.0);
+      group = ap (λ (g : WasmRecGroup). g.types) (rec_group_eq-exact c.in-Some.entry.now.hash_consing_key c.args.key found.0);
       numbers = numbers;
       map = map_after;
       stands = inl (refl, found.1, refl);
@@ -62,7 +62,7 @@ returns-clause-ok c =
     let none = found_among entries plan.added.items c.as_slice.result.now key None c.as_slice.ensures.value c.in_default.ensures in
     let after : PlanFields = record { added = c.push.new.self; given = c.in_ok-plan.field-0; numbers = c.add_occurrence-2.new.numbers; map = c.add_occurrence-2.new.map } in
     let made = subst (NewMade entries plan.given.numbers key entry) c.as_slice-2.ensures.value c.in_ok-entry.ensures.made in
-    let given : after.given ≡ record { numbers = plan.given.numbers + 1; types = plan.given.types + length entry.indices; references = plan.given.references + length entry.outer } =
+    let given : after.given ≡ record { numbers = plan.given.numbers + 1; types = plan.given.types + length entry.shared_type_indices; references = plan.given.references + length entry.outer } =
     c.in_ok-plan.ensures ∙ (λ i. record { numbers = plan.given.numbers + 1; types = plan.given.types + c.len.ensures i; references = plan.given.references + c.len-2.ensures i }) in
     planned-new entries plan after key entry c.requires.keys c.requires.named none made c.in_ok-push.ensures.items given c.in_ok-add_occurrence.ensures.numbers c.in_ok-add_occurrence.ensures.map
 

@@ -4,7 +4,8 @@ use Rattle.std.proofs.lemmas.Bool.{false≢true}
 use Rattle.std.proofs.lemmas.List.{take_all, take_more}
 use Rattle.wt_session.specs.declared.command.Command.{Command}
 use Rattle.wt_session.specs.World.{IsCommand, AreCommands}
-use Rattle.wt_session.proofs.Times.{among_either, among_one, among_read}
+use Rattle.wt_env.proofs.lists.Members.{among_either}
+use Rattle.wt_session.proofs.Times.{among_one, among_read}
 use Rattle.wt_session.proofs.command.are_commands.Goals as goal
 
 one_more : (commands : List Command) (n : ℕ) (command : Command) → n < length commands → command ≡ get_or commands n command
