@@ -1,3 +1,4 @@
 pub mod Items
 pub mod Parted
+pub mod Erased
 pub mod lists

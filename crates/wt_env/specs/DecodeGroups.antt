@@ -5,7 +5,7 @@ use Rattle.std.specs.Option.{option_map_or}
 use Rattle.serde_json.specs.Data.{Data}
 use Rattle.serde_json.specs.Find.{get, as_array}
 use Rattle.wt_env.specs.Json.{key_count, each_of, two_of}
-use Rattle.wt_env.specs.DecodeValues.{decode_number, decode_field}
+use Rattle.wt_env.specs.DecodeValues.{decode_val, decode_field}
 use Rattle.wt_env.specs.declared.types.WasmValType.{WasmValType}
 use Rattle.wt_env.specs.declared.types.WasmFuncType.{WasmFuncType}
 use Rattle.wt_env.specs.declared.types.WasmStructType.{WasmStructType}
@@ -16,13 +16,13 @@ use Rattle.wt_env.specs.declared.types.WasmSubType.{WasmSubType}
 use Rattle.wt_env.specs.declared.types.WasmRecGroup.{WasmRecGroup}
 use Rattle.wt_env.specs.declared.types.ModuleTypes.{ModuleTypes}
 
--- a list of number and vector types
-abbrev pub decode_numbers : Data → Option (List WasmValType)
-decode_numbers d = option_and_then (each_of decode_number) (as_array d)
+-- a list of value types
+abbrev pub decode_vals : Data → Option (List WasmValType)
+decode_vals d = option_and_then (each_of decode_val) (as_array d)
 
 -- the function type with two lists of value types, as parameters and as results
 abbrev pub func_from : Data → Data → Option WasmFuncType
-func_from params results = option_and_then (λ ps. option_map (λ rs. record { params = ps; results = rs }) (decode_numbers results)) (decode_numbers params)
+func_from params results = option_and_then (λ ps. option_map (λ rs. record { params = ps; results = rs }) (decode_vals results)) (decode_vals params)
 
 -- a function type: [parameters, results]
 abbrev pub decode_func : Data → Option WasmFuncType

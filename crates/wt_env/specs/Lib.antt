@@ -2,6 +2,7 @@ pub mod Counts
 pub mod DecodeGroups
 pub mod DecodeValues
 pub mod Equality
+pub mod Erasure
 pub mod Json
 pub mod Limits
 pub mod MemoryStream

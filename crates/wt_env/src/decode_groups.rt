@@ -4,10 +4,10 @@
 ghost use Rattle.std.specs.Prelude.{◌≡◌, IfOk};
 ghost use Rattle.serde_json.specs.View.{view, items_view};
 ghost use Rattle.wt_env.specs.Json.{each_of};
-ghost use Rattle.wt_env.specs.DecodeValues.{decode_number, decode_field};
-ghost use Rattle.wt_env.specs.DecodeGroups.{decode_numbers, func_from, decode_func, decode_struct, decode_array, composite_in, decode_member, decode_group, decode_groups};
+ghost use Rattle.wt_env.specs.DecodeValues.{decode_val, decode_field};
+ghost use Rattle.wt_env.specs.DecodeGroups.{decode_vals, func_from, decode_func, decode_struct, decode_array, composite_in, decode_member, decode_group, decode_groups};
 
-use crate::decode_values::{decode_field, decode_number};
+use crate::decode_values::{decode_field, decode_val};
 use crate::json::key_count;
 use crate::memory::OutOfMemory;
 use crate::seq::Seq;
@@ -20,9 +20,9 @@ use std::alloc::Global;
 
 /// The recursion groups of a module (WebAssembly 3.0, "Types" and "Recursive Types"): a list of groups,
 /// each a list of members. A member is an object whose only key says the kind of its shape:
-/// `{"func": [parameters, results]}` with two lists of number and vector types, `{"struct": [fields]}`
-/// or `{"array": field}`. It is final and has no supertype. `None` exactly where the value isn't of
-/// that form.
+/// `{"func": [parameters, results]}` with two lists of value types, `{"struct": [fields]}` or
+/// `{"array": field}`. It is final and has no supertype. `None` exactly where the value isn't of that
+/// form.
 pub fn decode_groups(alloc: Global, value: &Value) -> Result<Option<ModuleTypes>, OutOfMemory>
     ensures { IfOk result (λ types. types ≡ decode_groups (view value.now)) }
 {
@@ -99,8 +99,8 @@ fn composite_in(alloc: Global, value: &Value) -> Result<Option<WasmCompositeInne
     }
 }
 
-/// A function type: `[parameters, results]`, two lists of number and vector types (WebAssembly 3.0,
-/// "Function Types").
+/// A function type: `[parameters, results]`, two lists of value types (WebAssembly 3.0, "Function
+/// Types").
 fn decode_func(alloc: Global, value: &Value) -> Result<Option<WasmFuncType>, OutOfMemory>
     ensures { IfOk result (λ func. func ≡ decode_func (view value.now)) }
 {
@@ -121,32 +121,32 @@ fn func_from(
 ) -> Result<Option<WasmFuncType>, OutOfMemory>
     ensures { IfOk result (λ func. func ≡ func_from (view params.now) (view results.now)) }
 {
-    let Some(params) = decode_numbers(alloc, params)? else {
+    let Some(params) = decode_vals(alloc, params)? else {
         return Ok(None);
     };
-    let Some(results) = decode_numbers(alloc, results)? else {
+    let Some(results) = decode_vals(alloc, results)? else {
         return Ok(None);
     };
     Ok(Some(WasmFuncType { params, results }))
 }
 
-/// A list of number and vector types.
-fn decode_numbers(alloc: Global, value: &Value) -> Result<Option<Seq<WasmValType>>, OutOfMemory>
-    ensures { IfOk result (λ vals. vals ≡ decode_numbers (view value.now)) }
+/// A list of value types.
+fn decode_vals(alloc: Global, value: &Value) -> Result<Option<Seq<WasmValType>>, OutOfMemory>
+    ensures { IfOk result (λ vals. vals ≡ decode_vals (view value.now)) }
 {
     match value.as_array() {
-        Some(list) => numbers_of(alloc, list.as_slice()),
+        Some(list) => vals_of(alloc, list.as_slice()),
         None => Ok(None),
     }
 }
 
-/// The number and vector types that elements stand for, if each is one.
-fn numbers_of(alloc: Global, list: &[Value]) -> Result<Option<Seq<WasmValType>>, OutOfMemory>
-    ensures { IfOk result (λ vals. vals ≡ each_of decode_number (items_view list.now)) }
+/// The value types that elements stand for, if each is one.
+fn vals_of(alloc: Global, list: &[Value]) -> Result<Option<Seq<WasmValType>>, OutOfMemory>
+    ensures { IfOk result (λ vals. vals ≡ each_of decode_val (items_view list.now)) }
 {
     let mut vals = Seq::new(alloc);
     for value in list {
-        match decode_number(value) {
+        match decode_val(value) {
             Some(val) => vals.push(val)?,
             None => return Ok(None),
         }

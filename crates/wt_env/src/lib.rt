@@ -4,6 +4,7 @@
 
 pub mod decode_groups;
 pub mod decode_values;
+pub mod erasure;
 pub mod json;
 pub mod limits;
 pub mod memory;

@@ -44,10 +44,14 @@ fn field(element_type: WasmStorageType, mutable: bool) -> WasmFieldType {
 }
 
 fn reference(nullable: bool, heap_type: WasmHeapType) -> WasmStorageType {
-    WasmStorageType::Val(WasmValType::Ref(WasmRefType {
+    WasmStorageType::Val(reference_val(nullable, heap_type))
+}
+
+fn reference_val(nullable: bool, heap_type: WasmHeapType) -> WasmValType {
+    WasmValType::Ref(WasmRefType {
         nullable,
         heap_type,
-    }))
+    })
 }
 
 fn index(index: u32) -> EngineOrModuleTypeIndex {
@@ -180,6 +184,56 @@ fn decodes_fields(rt: HostRuntime) -> Result<(), Fail> {
     Ok(())
 }
 
+/// Parameters and results are any value types: numbers, vectors and references.
+#[test]
+fn decodes_functions_over_references(rt: HostRuntime) -> Result<(), Fail> {
+    let alloc = rt.alloc();
+    let rows = [
+        (
+            r#"[[{"func":[[{"ref":{"func":1}},"eqref"],[{"null":"i31"}]]}]]"#,
+            func(
+                alloc,
+                &[
+                    reference_val(false, WasmHeapType::ConcreteFunc(index(1))),
+                    reference_val(true, WasmHeapType::Eq),
+                ],
+                &[reference_val(true, WasmHeapType::I31)],
+            )?,
+        ),
+        (
+            r#"[[{"func":[[],["nullexnref","i32",{"ref":"any"},{"null":{"array":0}}]]}]]"#,
+            func(
+                alloc,
+                &[],
+                &[
+                    reference_val(true, WasmHeapType::NoExn),
+                    WasmValType::I32,
+                    reference_val(false, WasmHeapType::Any),
+                    reference_val(true, WasmHeapType::ConcreteArray(index(0))),
+                ],
+            )?,
+        ),
+        (
+            r#"[[{"func":[["anyref",{"ref":{"struct":4294967295}},"v128"],["contref"]]}]]"#,
+            func(
+                alloc,
+                &[
+                    reference_val(true, WasmHeapType::Any),
+                    reference_val(false, WasmHeapType::ConcreteStruct(index(4294967295))),
+                    WasmValType::V128,
+                ],
+                &[reference_val(true, WasmHeapType::Cont)],
+            )?,
+        ),
+    ];
+    for (text, ty) in rows {
+        let value = Value::from_str(alloc, text)?;
+        let want = alone(alloc, ty)?;
+        assert_eq!(rt; decode_groups(alloc, &value)?, Some(want), "at {text}");
+    }
+    Ok(())
+}
+
 /// Values that stand for no groups.
 const REFUSED: &str = r#"[
     null, {}, "func", [7], [{}], [{"func":[[],[]]}], [[],7], [[7]], [[{}]], [["func"]],
@@ -187,8 +241,10 @@ const REFUSED: &str = r#"[
     [[{"func":[[],[]],"final":true}]], [[{"func":[[],[]],"super":0}]],
     [[{"exn":{"func":0}}]], [[{"cont":{"func":0}}]],
     [[{"func":[]}]], [[{"func":[[]]}]], [[{"func":[[],[],[]]}]], [[{"func":{}}]],
-    [[{"func":["i32","i32"]}]], [[{"func":[["i32","i8"],[]]}]], [[{"func":[["anyref"],[]]}]],
-    [[{"func":[[],[{"ref":"any"}]]}]],
+    [[{"func":["i32","i32"]}]], [[{"func":[["i32","i8"],[]]}]], [[{"func":[["any"],[]]}]],
+    [[{"func":[[],[{"mut":"i32"}]]}]], [[{"func":[["anyref","i16"],[]]}]],
+    [[{"func":[[{"ref":"anyref"}],[]]}]], [[{"func":[[],[{"ref":{"func":-1}}]]}]],
+    [[{"func":[[{"ref":"any","null":"any"}],[]]}]], [[{"func":[[],[{"null":{"exn":0}}]]}]],
     [[{"struct":"i32"}]], [[{"struct":{}}]], [[{"struct":["i32",7]}]],
     [[{"array":["i32"]}]], [[{"array":{"mut":"i32","x":1}}]],
     [[{"array":{"ref":{"struct":4294967296}}}]], [[{"array":{"null":{"array":-1}}}]],
