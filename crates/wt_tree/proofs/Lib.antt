@@ -7,4 +7,5 @@ pub mod ModuleTrees
 pub mod Numbering
 pub mod Plain
 pub mod References
+pub mod Trampolines
 pub mod TreeEquality

@@ -4,3 +4,4 @@ pub mod NumberFunction
 pub mod MapRefs
 pub mod References
 pub mod Tree
+pub mod Trampoline

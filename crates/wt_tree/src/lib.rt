@@ -5,3 +5,4 @@
 pub mod map_refs;
 pub mod number_function;
 pub mod refs;
+pub mod trampoline;
