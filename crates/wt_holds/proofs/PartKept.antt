@@ -15,7 +15,7 @@ use Rattle.wt_model.specs.Removal.{reached_in, reached_part}
 use Rattle.wt_model.specs.Sound.{AreBelow, HoldsInvariant}
 use Rattle.wt_keys.proofs.AddedKeys.{names_older}
 use Rattle.wt_holds.proofs.KeptKeys.{length-kept_entries, keys-kept, shown-kept}
-use Rattle.wt_model.proofs.removal.KeptPart.{KeepsLed, KeepsNamed, led-named, below-kept}
+use Rattle.wt_model.proofs.removal.KeptPart.{KeepsLed, below-kept}
 use Rattle.wt_model.proofs.removal.Removing.{part-led}
 
 -- the registry of the groups, with these counts
@@ -30,7 +30,7 @@ pub part-keeps : (engine : EngineParts) (groups after : TypeRegistryInner) (stan
     → AreKept engine after
 part-keeps engine groups after standings kept part entries marks stands = record {
   keys = subst (λ (es : List RecGroupEntry). AreKeys es after.given.numbers) (sym entries)
-      (subst (λ (g : EverRegistered). AreKeys (kept_entries keep old) g.numbers) given (keys-kept keep old groups.given.numbers kept.keys named));
+      (subst (λ (g : EverRegistered). AreKeys (kept_entries keep old) g.numbers) given (keys-kept keep old groups.given.numbers kept.keys led));
   shown = subst AreShown (sym entries) (shown-kept keep old kept.shown);
   within =
       let few = length-kept_entries keep old in
@@ -53,6 +53,3 @@ part-keeps engine groups after standings kept part entries marks stands = record
 
     led : KeepsLed keep (made_by old)
     led = part-led (counted_as engine groups standings) groups.given.numbers kept.keys.rising (names_older old groups.given.numbers kept.keys)
-
-    named : KeepsNamed keep (made_by old)
-    named = led-named keep (made_by old) led

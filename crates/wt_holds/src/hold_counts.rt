@@ -32,7 +32,7 @@ pub fn is_held(holds: &[u64]) -> bool
 }
 
 /// Where the count of a group stands.
-fn place_of(counts: &[HoldCounts], number: u64) -> Option<usize>
+fn count_place(counts: &[HoldCounts], number: u64) -> Option<usize>
     ensures { result ≡ position_from (λ count. count.number == number) 0 counts.now }
 {
     counts.iter().position(|count| count.number == number)
@@ -51,7 +51,7 @@ pub fn held_by(counts: &[HoldCounts], party: u32, number: u64) -> u64
     requires parties { (count : HoldCounts) → Among count counts.now → party < length count.holds.items }
     ensures { result ≡ held_at (standings_of counts.now) party number }
 {
-    match place_of(counts, number) {
+    match count_place(counts, number) {
         Some(place) => holds_of(&counts[place], party),
         None => 0,
     }
@@ -61,7 +61,7 @@ pub fn held_by(counts: &[HoldCounts], party: u32, number: u64) -> u64
 pub fn waits(counts: &[HoldCounts], number: u64) -> bool
     ensures { result ≡ waits_at (standings_of counts.now) number }
 {
-    match place_of(counts, number) {
+    match count_place(counts, number) {
         Some(place) => counts[place].waits,
         None => false,
     }
@@ -93,7 +93,7 @@ pub fn gain(counts: &mut Vec<HoldCounts>, party: u32, number: u64)
     requires room { held_at (standings_of counts.old.items) party number + 1 < 2 ^ 64 }
     ensures { standings_of counts.new.items ≡ change number (gained party) (standings_of counts.old.items) }
 {
-    if let Some(place) = place_of(counts, number) {
+    if let Some(place) = count_place(counts, number) {
         raise(&mut counts[place], party);
     }
 }
@@ -102,7 +102,7 @@ pub fn gain(counts: &mut Vec<HoldCounts>, party: u32, number: u64)
 pub fn set_waits(counts: &mut Vec<HoldCounts>, number: u64, waits: bool)
     ensures { standings_of counts.new.items ≡ change number (λ standing. record standing { waits = waits }) (standings_of counts.old.items) }
 {
-    if let Some(place) = place_of(counts, number) {
+    if let Some(place) = count_place(counts, number) {
         counts[place].waits = waits;
     }
 }
@@ -113,7 +113,7 @@ pub fn lose(counts: &mut Vec<HoldCounts>, party: u32, number: u64)
     requires held { 1 ≤ held_at (standings_of counts.old.items) party number }
     ensures { standings_of counts.new.items ≡ change number (fewer party) (standings_of counts.old.items) }
 {
-    if let Some(place) = place_of(counts, number) {
+    if let Some(place) = count_place(counts, number) {
         lower(&mut counts[place], party);
     }
 }

@@ -2,6 +2,7 @@
 
 ghost use Rattle.std.specs.Prelude.{◌≡◌, ◌==◌, ℕ, Bool, length};
 ghost use Rattle.std.specs.List.{list_any};
+ghost use Rattle.std.specs.Option.{option_to_list};
 ghost use Rattle.wt_keys.specs.Entries.{made_of, made_by};
 ghost use Rattle.wt_model.specs.Reach.{leads_to as has_edge};
 ghost use Rattle.wt_model.specs.Removal.{is_reached};
@@ -16,11 +17,27 @@ fn names_number(references: &[(u64, u32)], number: u64) -> bool
     references.iter().any(|reference| reference.0 == number)
 }
 
+fn is_number(told: Option<u64>, number: u64) -> bool
+    ensures { result ≡ list_any (λ n. n == number) (option_to_list told) }
+{
+    match told {
+        Some(trampoline) => trampoline == number,
+        None => false,
+    }
+}
+
+fn tells_number(trampolines: &[Option<u64>], number: u64) -> bool
+    ensures { result ≡ list_any (λ told. list_any (λ n. n == number) (option_to_list told)) trampolines.now }
+{
+    trampolines.iter().any(|told| is_number(*told, number))
+}
+
 /// Whether an edge leads from the group to the one with this number.
 fn leads_to(entry: &RecGroupEntry, number: u64) -> bool
     ensures { result ≡ has_edge (made_of entry.now) number }
 {
     names_number(entry.outer.as_slice(), number)
+        || tells_number(entry.trampolines.as_slice(), number)
 }
 
 /// Whether an edge leads from a group that is marked to the one with this number.

@@ -1,6 +1,7 @@
 -- What is true of all keys stays true where a new entry is added, and what follows for the registry: one index
 -- for each closed tree, and the closed tree of each index.
-use Rattle.std.proofs.Common.{◌≡◌, ◌≢◌, ◌⊎◌, ℕ, ◌+◌, ◌<◌, inl, inr, true, List, [], ◌∷◌, ◌++◌, length, map, slice_get, Some, option_map, refl, sym, ap, subst, ◌∙◌, arith}
+use Rattle.std.proofs.Common.{◌≡◌, ◌≢◌, ◌⊎◌, ℕ, ◌+◌, ◌<◌, inl, inr, true, List, [], ◌∷◌, ◌++◌, length, map, slice_get, Option, Some, option_map, refl, sym, ap, subst, ◌∙◌, arith}
+use Rattle.std.specs.List.{filter_map}
 use Rattle.std.proofs.lemmas.Bool.{false≢true}
 use Rattle.std.proofs.lemmas.List.{map-append}
 use Rattle.wt_env.specs.Equality.{rec_group_eq, rec_group_eq-refl}
@@ -19,11 +20,13 @@ use Rattle.wt_model.specs.Trees.{trees}
 use Rattle.wt_model.specs.Indices.{locate, closed_tree}
 use Rattle.wt_model.specs.Describe.{tree_of}
 use Rattle.wt_model.specs.NamedTypes.{NamesTypes, NameTypes}
+use Rattle.wt_model.specs.Trampolines.{TellTrampolines}
+use Rattle.wt_model.proofs.Trampolines.{among-told, tell-before, tell-registered}
 use Rattle.wt_model.specs.Sound.{IsRising, IsLocated, OneIndexPerTree, NamesOlder, AreIndexed}
 use Rattle.wt_keys.specs.Entries.{made_of, made_by}
-use Rattle.wt_keys.specs.Keys.{named_at, Names, KeyNamesTypes, IsKey, AreApartTrees, AreKeys, IsNewKey}
+use Rattle.wt_keys.specs.Keys.{named_at, ResolvesTo, KeyNamesTypes, IsKey, AreApartTrees, AreKeys, IsNewKey}
 use Rattle.wt_env.proofs.lists.Mapped.{among_map, among_mapped, among_last}
-use Rattle.wt_env.proofs.lists.Members.{first_same, rest_same, some_same, among_pushed, find-none}
+use Rattle.wt_env.proofs.lists.Members.{first_same, rest_same, some_same, among_pushed, among_either, find-none}
 use Rattle.wt_model.proofs.indices.Rising.{number_within, one_number, rising-pushed}
 use Rattle.wt_model.proofs.indices.Places.{locate-at, locate-before, located-added}
 use Rattle.wt_model.proofs.trees.Trees.{trees-pushed, trees-pushed_own}
@@ -48,7 +51,7 @@ refs-before made more (x ∷ xs) (o ∷ os) is =
     λ t. here t ∷ rest t
 
 -- where groups are added, references name what they named
-pub names-before : (made more : List RegisteredGroup) (types : List WasmSubType) (outer : List (ℕ × ℕ)) → Names made types outer → Names (made ++ more) types outer
+pub names-before : (made more : List RegisteredGroup) (types : List WasmSubType) (outer : List (ℕ × ℕ)) → ResolvesTo made types outer → ResolvesTo (made ++ more) types outer
 names-before made more types outer names = refs-before made more (group_refs types) outer names
 
 key-before : (made more : List RegisteredGroup) (entry : RecGroupEntry) → IsKey made entry → IsKey (made ++ more) entry
@@ -57,6 +60,8 @@ key-before made more entry key = record {
   older = key.older;
   members = key.members;
   name_types = names_types-before made more (made_of entry).description key.name_types;
+  trampolines = tell-before made more (made_of entry).description.members entry.trampolines key.trampolines;
+  older_trampolines = key.older_trampolines;
 }
 
 -- a group has as many indices as members
@@ -69,14 +74,24 @@ indexed entries top keys a at =
     ∙ sym (length-number_group entry.hash_consing_key.types) ∙ ap (λ (m : RegisteredGroup). length m.description.members) (sym same)
 
 -- a new entry refers to older groups, since it refers to registered ones; where its key names types, it does
-pub is_key-new : (entries : List RecGroupEntry) (top : ℕ) (entry : RecGroupEntry) → AreKeys entries top → entry.number ≡ top + 1 → Names (made_by entries) entry.hash_consing_key.types entry.outer → length entry.shared_type_indices ≡ length entry.hash_consing_key.types → KeyNamesTypes (made_by entries) entry.hash_consing_key.types → IsKey (made_by entries) entry
-is_key-new entries top entry keys next names members name_types = record {
+pub is_key-new : (entries : List RecGroupEntry) (top : ℕ) (entry : RecGroupEntry) → AreKeys entries top → entry.number ≡ top + 1 → ResolvesTo (made_by entries) entry.hash_consing_key.types entry.outer → length entry.shared_type_indices ≡ length entry.hash_consing_key.types → KeyNamesTypes (made_by entries) entry.hash_consing_key.types
+    → TellTrampolines (made_by entries) (number_group entry.hash_consing_key.types) entry.trampolines → IsKey (made_by entries) entry
+is_key-new entries top entry keys next names members name_types tell = record {
   names = names;
   older = older;
   members = members;
   name_types = names_types-key (made_by entries) entry.hash_consing_key.types entry.outer names name_types (indexed entries top keys);
+  trampolines = tell;
+  older_trampolines = older_trampolines;
 }
   where
+    older_trampolines : (number : ℕ) → Among (Some number) entry.trampolines → number < entry.number
+    older_trampolines number at =
+        let named = tell-registered (made_by entries) (number_group entry.hash_consing_key.types) entry.trampolines number tell at in
+        let within = number_within 0 top (made_by entries) named.0 keys.rising named.1 in
+        let same = named.2 in
+        omega (arith, next, within, same)
+
     older : (reference : ℕ × ℕ) → Among reference entry.outer → reference.0 < entry.number
     older reference at =
         let named = names-registered (made_by entries) entry.hash_consing_key.types entry.outer names reference at in
@@ -164,12 +179,12 @@ module _ (entries : List RecGroupEntry) (top : ℕ) (entry : RecGroupEntry) (key
       ap (trees (made_by (entries ++ entry ∷ []))) (sym same) ∙ tree-kept group at ∙ ap (trees (made_by entries)) same
 
   -- types whose references are known have the tree that they had
-  pub tree_of-kept : (types : List WasmSubType) (outer : List (ℕ × ℕ)) → Names (made_by entries) types outer → tree_of (made_by (entries ++ entry ∷ [])) types ≡ tree_of (made_by entries) types
+  pub tree_of-kept : (types : List WasmSubType) (outer : List (ℕ × ℕ)) → ResolvesTo (made_by entries) types outer → tree_of (made_by (entries ++ entry ∷ [])) types ≡ tree_of (made_by entries) types
   tree_of-kept types outer names =
       let made = made_by entries in
       let more = made_by (entries ++ entry ∷ []) in
       let description : Description = record { members = number_group types; outer = outer } in
-      let still = subst (λ all. Names all types outer) (sym pushed) (names-before made (made_of entry ∷ []) types outer names) in
+      let still = subst (λ all. ResolvesTo all types outer) (sym pushed) (names-before made (made_of entry ∷ []) types outer names) in
       let group = names-registered made types outer names in
       ap (close (trees more)) (describe-named more types outer still)
       ∙ close-agree (trees more) (trees made) description (λ r at. number-kept (group r at).0 r.0 (group r at).1 (group r at).2)
@@ -203,13 +218,27 @@ one_index entries top keys a b j k i l at bt first second = (there, back)
 -- edges lead to older registered groups
 pub names_older : (entries : List RecGroupEntry) (top : ℕ) → AreKeys entries top → NamesOlder (made_by entries)
 names_older entries top keys a number at leads =
-    let edge = among_map (λ (r : ℕ × ℕ). r.0) a.description.outer number leads in
-    let named = among_map made_of entries a at in
-    let key = keys.keys named.0 named.1 in
-    let there : Among edge.0 named.0.outer = subst (Among edge.0) (ap (λ (m : RegisteredGroup). m.description.outer) named.2) edge.1 in
-    let below = subst (λ (m : RegisteredGroup). (edge.0).0 < m.number) (sym named.2) (key.older edge.0 there) in
-    let group = names-registered (made_by entries) named.0.hash_consing_key.types named.0.outer key.names edge.0 there in
-    (subst (λ n. n < a.number) (sym edge.2) below, group.0, group.1, group.2 ∙ sym edge.2)
+    by (among_either (map (λ (r : ℕ × ℕ). r.0) a.description.outer) (filter_map (λ (told : Option ℕ). told) a.trampolines) number leads)
+  where
+    named : (entry : RecGroupEntry) × Among entry entries × (a ≡ made_of entry)
+    named = among_map made_of entries a at
+
+    key : IsKey (made_by entries) named.0
+    key = keys.keys named.0 named.1
+
+    by : Among number (map (λ (r : ℕ × ℕ). r.0) a.description.outer) ⊎ Among number (filter_map (λ (told : Option ℕ). told) a.trampolines)
+        → (number < a.number) × (b : RegisteredGroup) × Among b (made_by entries) × (b.number ≡ number)
+    by (inl refers) =
+        let edge = among_map (λ (r : ℕ × ℕ). r.0) a.description.outer number refers in
+        let there : Among edge.0 named.0.outer = subst (Among edge.0) (ap (λ (m : RegisteredGroup). m.description.outer) named.2) edge.1 in
+        let below = subst (λ (m : RegisteredGroup). (edge.0).0 < m.number) (sym named.2) (key.older edge.0 there) in
+        let group = names-registered (made_by entries) named.0.hash_consing_key.types named.0.outer key.names edge.0 there in
+        (subst (λ n. n < a.number) (sym edge.2) below, group.0, group.1, group.2 ∙ sym edge.2)
+    by (inr enters) =
+        let there : Among (Some number) named.0.trampolines = subst (Among (Some number)) (ap (λ (m : RegisteredGroup). m.trampolines) named.2) (among-told number a.trampolines enters) in
+        let below = subst (λ (m : RegisteredGroup). number < m.number) (sym named.2) (key.older_trampolines number there) in
+        let group = tell-registered (made_by entries) (number_group named.0.hash_consing_key.types) named.0.trampolines number key.trampolines there in
+        (below, group.0, group.1, group.2)
 
 -- each registered group names types
 pub name_types : (entries : List RecGroupEntry) (top : ℕ) → AreKeys entries top → NameTypes (made_by entries)

@@ -19,7 +19,7 @@ use Rattle.wt_model.specs.Trees.{trees}
 use Rattle.wt_model.specs.Describe.{located, describe, tree_of, find_tree}
 use Rattle.wt_model.specs.Sound.{IsRising}
 use Rattle.wt_keys.specs.Entries.{made_of, made_by}
-use Rattle.wt_keys.specs.Keys.{named_at, Names, AreKeys}
+use Rattle.wt_keys.specs.Keys.{named_at, ResolvesTo, AreKeys}
 use Rattle.wt_env.proofs.lists.Mapped.{among_map, among_mapped}
 use Rattle.wt_env.proofs.lists.Members.{first_same, rest_same, same_test, find-map}
 use Rattle.wt_model.proofs.indices.Places.{locate-at, one_place}
@@ -42,7 +42,7 @@ all-located made (x ∷ xs) (o ∷ os) is =
     λ t. here t ∷ rest t
 
 -- the description of types whose references are known
-pub describe-named : (made : List RegisteredGroup) (types : List WasmSubType) (outer : List (ℕ × ℕ)) → Names made types outer → describe made types ≡ record { members = number_group types; outer = outer }
+pub describe-named : (made : List RegisteredGroup) (types : List WasmSubType) (outer : List (ℕ × ℕ)) → ResolvesTo made types outer → describe made types ≡ record { members = number_group types; outer = outer }
 describe-named made types outer names =
     let same = all-located made (group_refs types) outer names in
     λ t. record { members = number_group types; outer = same t }
@@ -78,12 +78,12 @@ refs-registered made (x ∷ xs) (p ∷ os) is o (inl same) = named-registered ma
 refs-registered made (x ∷ xs) (p ∷ os) is o (inr later) = refs-registered made xs os (rest_same is) o later
 
 -- what is named is registered
-pub names-registered : (made : List RegisteredGroup) (types : List WasmSubType) (outer : List (ℕ × ℕ)) → Names made types outer → (reference : ℕ × ℕ) → Among reference outer → (group : RegisteredGroup) × Among group made × (group.number ≡ reference.0)
+pub names-registered : (made : List RegisteredGroup) (types : List WasmSubType) (outer : List (ℕ × ℕ)) → ResolvesTo made types outer → (reference : ℕ × ℕ) → Among reference outer → (group : RegisteredGroup) × Among group made × (group.number ≡ reference.0)
 names-registered made types outer names reference at = refs-registered made (group_refs types) outer names reference at
 
 -- ---- keys and trees
 
-names_below : (entries : List RecGroupEntry) (top : ℕ) → AreKeys entries top → NamesBelow (made_by entries)
+pub names_below : (entries : List RecGroupEntry) (top : ℕ) → AreKeys entries top → NamesBelow (made_by entries)
 names_below entries top keys m reference at refers =
     let named = among_map made_of entries m at in
     subst (λ (n : RegisteredGroup). reference.0 < n.number) (sym named.2)
@@ -100,7 +100,7 @@ tree-of_key entries top entry keys at =
     tree-closed entries top entry keys at
     ∙ ap (close (trees (made_by entries))) (sym (describe-named (made_by entries) entry.hash_consing_key.types entry.outer (keys.keys entry at).names))
 
-key-from_tree : (entries : List RecGroupEntry) (top : ℕ) (entry : RecGroupEntry) (types : List WasmSubType) (outer : List (ℕ × ℕ)) → AreKeys entries top → Among entry entries → Names (made_by entries) types outer → trees (made_by entries) entry.number ≡ tree_of (made_by entries) types → entry.hash_consing_key.types ≡ types
+key-from_tree : (entries : List RecGroupEntry) (top : ℕ) (entry : RecGroupEntry) (types : List WasmSubType) (outer : List (ℕ × ℕ)) → AreKeys entries top → Among entry entries → ResolvesTo (made_by entries) types outer → trees (made_by entries) entry.number ≡ tree_of (made_by entries) types → entry.hash_consing_key.types ≡ types
 key-from_tree entries top entry types outer keys at names same =
     let made = made_by entries in
     let named = (keys.keys entry at).names in
@@ -120,13 +120,13 @@ key-from_tree entries top entry types outer keys at names same =
         sym a.2 ∙ keys.apart a.0 b.0 a.1 b.1 (ap (trees (made_by entries)) a.2 ∙ equal ∙ ap (trees (made_by entries)) (sym b.2)) ∙ b.2
 
 -- a registered group has these types as its key exactly where it has their tree
-pub key-tree : (entries : List RecGroupEntry) (top : ℕ) (entry : RecGroupEntry) (types : List WasmSubType) (outer : List (ℕ × ℕ)) → AreKeys entries top → Among entry entries → Names (made_by entries) types outer → (entry.hash_consing_key.types ≡ types) ↔ (trees (made_by entries) entry.number ≡ tree_of (made_by entries) types)
+pub key-tree : (entries : List RecGroupEntry) (top : ℕ) (entry : RecGroupEntry) (types : List WasmSubType) (outer : List (ℕ × ℕ)) → AreKeys entries top → Among entry entries → ResolvesTo (made_by entries) types outer → (entry.hash_consing_key.types ≡ types) ↔ (trees (made_by entries) entry.number ≡ tree_of (made_by entries) types)
 key-tree entries top entry types outer keys at names = (
   λ same. tree-of_key entries top entry keys at ∙ ap (tree_of (made_by entries)) same,
   key-from_tree entries top entry types outer keys at names,
 )
 
-key_test : (entries : List RecGroupEntry) (top : ℕ) (entry : RecGroupEntry) (types : List WasmSubType) (outer : List (ℕ × ℕ)) → AreKeys entries top → Among entry entries → Names (made_by entries) types outer → rec_group_eq entry.hash_consing_key (record { types = types }) ≡ tree_eq (trees (made_by entries) entry.number) (tree_of (made_by entries) types)
+key_test : (entries : List RecGroupEntry) (top : ℕ) (entry : RecGroupEntry) (types : List WasmSubType) (outer : List (ℕ × ℕ)) → AreKeys entries top → Among entry entries → ResolvesTo (made_by entries) types outer → rec_group_eq entry.hash_consing_key (record { types = types }) ≡ tree_eq (trees (made_by entries) entry.number) (tree_of (made_by entries) types)
 key_test entries top entry types outer keys at names =
     let key : WasmRecGroup = record { types = types } in
     let both = key-tree entries top entry types outer keys at names in
@@ -136,7 +136,7 @@ key_test entries top entry types outer keys at names =
     (λ passes. ap (λ ts. rec_group_eq (record { types = ts }) key) (both.1 (tree.0 passes)) ∙ rec_group_eq-refl key)
 
 -- the search by trees finds what the search by keys does
-pub find_tree-by_key : (entries : List RecGroupEntry) (top : ℕ) (types : List WasmSubType) (outer : List (ℕ × ℕ)) → AreKeys entries top → Names (made_by entries) types outer → find_tree (made_by entries) (tree_of (made_by entries) types) ≡ option_map made_of (find (λ entry. rec_group_eq entry.hash_consing_key (record { types = types })) entries)
+pub find_tree-by_key : (entries : List RecGroupEntry) (top : ℕ) (types : List WasmSubType) (outer : List (ℕ × ℕ)) → AreKeys entries top → ResolvesTo (made_by entries) types outer → find_tree (made_by entries) (tree_of (made_by entries) types) ≡ option_map made_of (find (λ entry. rec_group_eq entry.hash_consing_key (record { types = types })) entries)
 find_tree-by_key entries top types outer keys names =
     find-map made_of (λ entry. rec_group_eq entry.hash_consing_key (record { types = types })) (λ m. tree_eq (trees (made_by entries) m.number) (tree_of (made_by entries) types)) entries
     (λ entry at. key_test entries top entry types outer keys at names)

@@ -1,7 +1,9 @@
 pub mod AddedKeys
 pub mod Borrowed
 pub mod KeyTrees
+pub mod KeyTrampolines
 pub mod NamedByKeys
 pub mod NewKeys
 pub mod ShownIndices
+pub mod TrampolineIndices
 pub mod UsedIndices

@@ -25,7 +25,7 @@ use Rattle.wt_model.specs.NamedTypes.{kind_at, HasPlace, NamesKind, NamesTypes}
 use Rattle.wt_model.specs.Sound.{AreIndexed}
 use Rattle.wt_model.proofs.NamedTypes.{kind_at-changed}
 use Rattle.wt_model.proofs.indices.Places.{locate-at}
-use Rattle.wt_keys.specs.Keys.{named_at, Names, KeyNamesKind, KeyNamesTypes}
+use Rattle.wt_keys.specs.Keys.{named_at, ResolvesTo, KeyNamesKind, KeyNamesTypes}
 
 -- ---- the numbered members, with their slots filled in
 
@@ -79,7 +79,7 @@ no_engine types ty wanted i at there =
 -- ---- what leaves a key
 
 -- what a reference of a key that leaves it names is the entry of outer with its number
-slot_at : (made : List RegisteredGroup) (types : List WasmSubType) (outer : List (ℕ × ℕ)) (n : ℕ) (r : EngineOrModuleTypeIndex) → Names made types outer → slice_get (group_refs types) n ≡ Some r
+slot_at : (made : List RegisteredGroup) (types : List WasmSubType) (outer : List (ℕ × ℕ)) (n : ℕ) (r : EngineOrModuleTypeIndex) → ResolvesTo made types outer → slice_get (group_refs types) n ≡ Some r
     → option_map Some (slice_get outer n) ≡ Some (named_at made r)
 slot_at made types outer n r names is =
     sym (slice_get-map Some outer n)
@@ -105,14 +105,14 @@ located_place made (index.Module i) at indexed is = absurd (cc)
 located_place made (index.RecGroup k) at indexed is = absurd (cc)
 
 -- each entry of outer is a place of a registered group
-outer_places : (made : List RegisteredGroup) (types : List WasmSubType) (outer : List (ℕ × ℕ)) → AreIndexed made → Names made types outer → (at : ℕ × ℕ) → Among at outer → HasPlace made at
+outer_places : (made : List RegisteredGroup) (types : List WasmSubType) (outer : List (ℕ × ℕ)) → AreIndexed made → ResolvesTo made types outer → (at : ℕ × ℕ) → Among at outer → HasPlace made at
 outer_places made types outer indexed names at there =
     let found = among_map (named_at made) (group_refs types) (Some at) (subst (Among (Some at)) (sym names) (among_mapped Some outer at there)) in
     located_place made found.0 at indexed (sym found.2)
 
 -- ---- all that stands in a key
 
-module _ (made : List RegisteredGroup) (types : List WasmSubType) (outer : List (ℕ × ℕ)) (names : Names made types outer) (key : KeyNamesTypes made types) where
+module _ (made : List RegisteredGroup) (types : List WasmSubType) (outer : List (ℕ × ℕ)) (names : ResolvesTo made types outer) (key : KeyNamesTypes made types) where
   abbrev described : Description
   described = record { members = number_group types; outer = outer }
 

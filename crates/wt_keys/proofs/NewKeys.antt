@@ -3,24 +3,27 @@ use Rattle.std.proofs.Common.{◌≡◌, ℕ, ◌+◌, List, length, None, sym, 
 use Rattle.std.specs.List.{find}
 use Rattle.wt_env.specs.Equality.{rec_group_eq}
 use Rattle.wt_env.specs.Among.{Among}
+use Rattle.wt_tree.specs.References.{number_group}
 use Rattle.wt_keys.specs.declared.entry.RecGroupEntry.{RecGroupEntry}
 use Rattle.wt_model.specs.Indices.{used, assign_shared_type_indices}
 use Rattle.wt_model.specs.Describe.{describe}
+use Rattle.wt_model.specs.Trampolines.{trampoline_numbers, TellTrampolines}
 use Rattle.wt_keys.specs.Entries.{made_of, made_by}
-use Rattle.wt_keys.specs.Keys.{Names, KeyNamesTypes, AreKeys, IsNewKey}
+use Rattle.wt_keys.specs.Keys.{ResolvesTo, KeyNamesTypes, AreKeys, IsNewKey}
 use Rattle.wt_model.specs.Indices.{AreUnused, AreDistinct}
 use Rattle.wt_keys.proofs.AddedKeys.{is_key-new}
 use Rattle.wt_model.proofs.indices.FreshIndices.{length-assign_shared_type_indices, assign_shared_type_indices-below, assign_shared_type_indices-unused, assign_shared_type_indices-distinct}
 use Rattle.wt_keys.proofs.KeyTrees.{describe-named}
+use Rattle.wt_keys.proofs.KeyTrampolines.{told-numbers}
 
-module _ (entries : List RecGroupEntry) (top : ℕ) (entry : RecGroupEntry) (number : entry.number ≡ top + 1) (names : Names (made_by entries) entry.hash_consing_key.types entry.outer) (indices : entry.shared_type_indices ≡ assign_shared_type_indices (length entry.hash_consing_key.types) (used (made_by entries))) where
-  pub new_key : AreKeys entries top → KeyNamesTypes (made_by entries) entry.hash_consing_key.types → find (λ e. rec_group_eq e.hash_consing_key entry.hash_consing_key) entries ≡ None → IsNewKey entries top entry
-  new_key keys name_types new =
+module _ (entries : List RecGroupEntry) (top : ℕ) (entry : RecGroupEntry) (number : entry.number ≡ top + 1) (names : ResolvesTo (made_by entries) entry.hash_consing_key.types entry.outer) (keys : AreKeys entries top) (tell : TellTrampolines (made_by entries) (number_group entry.hash_consing_key.types) entry.trampolines) (indices : entry.shared_type_indices ≡ assign_shared_type_indices (length entry.hash_consing_key.types) (used (made_by entries))) where
+  pub new_key : KeyNamesTypes (made_by entries) entry.hash_consing_key.types → find (λ e. rec_group_eq e.hash_consing_key entry.hash_consing_key) entries ≡ None → IsNewKey entries top entry
+  new_key name_types new =
       let n = length entry.hash_consing_key.types in
       let numbers = used (made_by entries) in
       record {
         number = number;
-        key = is_key-new entries top entry keys number names (ap length indices ∙ length-assign_shared_type_indices n numbers) name_types;
+        key = is_key-new entries top entry keys number names (ap length indices ∙ length-assign_shared_type_indices n numbers) name_types tell;
         new = new;
         unused = subst (AreUnused numbers) (sym indices) (assign_shared_type_indices-unused n numbers);
         distinct = subst AreDistinct (sym indices) (assign_shared_type_indices-distinct n numbers);
@@ -31,7 +34,8 @@ module _ (entries : List RecGroupEntry) (top : ℕ) (entry : RecGroupEntry) (num
       }
 
   -- and what it is among the registered groups
-  pub new_made : made_of entry ≡ record { number = top + 1; description = describe (made_by entries) entry.hash_consing_key.types; indices = assign_shared_type_indices (length entry.hash_consing_key.types) (used (made_by entries)) }
+  pub new_made : made_of entry ≡ record { number = top + 1; description = describe (made_by entries) entry.hash_consing_key.types; trampolines = trampoline_numbers (made_by entries) (number_group entry.hash_consing_key.types); indices = assign_shared_type_indices (length entry.hash_consing_key.types) (used (made_by entries)) }
   new_made =
       let described = sym (describe-named (made_by entries) entry.hash_consing_key.types entry.outer names) in
-      λ t. record { number = number t; description = described t; indices = indices t }
+      let told = told-numbers entries top keys (number_group entry.hash_consing_key.types) entry.trampolines tell in
+      λ t. record { number = number t; description = described t; trampolines = told t; indices = indices t }

@@ -9,6 +9,7 @@ abbrev pub made_of : RecGroupEntry → RegisteredGroup
 made_of entry = record {
   number = entry.number;
   description = record { members = number_group entry.hash_consing_key.types; outer = entry.outer };
+  trampolines = entry.trampolines;
   indices = entry.shared_type_indices;
 }
 

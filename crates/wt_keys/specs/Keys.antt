@@ -15,6 +15,7 @@ use Rattle.wt_model.specs.Registered.{RegisteredGroup}
 use Rattle.wt_env.specs.Among.{Among}
 use Rattle.wt_model.specs.Trees.{trees}
 use Rattle.wt_model.specs.NamedTypes.{kind_at, HasKind, NamesTypes}
+use Rattle.wt_model.specs.Trampolines.{TellTrampolines}
 use Rattle.wt_model.specs.Indices.{locate, used, AreUnused, AreDistinct}
 use Rattle.wt_model.specs.Sound.{IsRising, IsLocated}
 use Rattle.wt_keys.specs.Entries.{made_of, made_by}
@@ -26,8 +27,8 @@ named_at made (index.Module i) = None
 named_at made (index.RecGroup k) = None
 
 -- each reference that leaves these types is the index of a registered type, and this is its number and place
-abbrev pub Names : List RegisteredGroup → List WasmSubType → List (ℕ × ℕ) → Type 0
-Names made types outer = map (named_at made) (group_refs types) ≡ map Some outer
+abbrev pub ResolvesTo : List RegisteredGroup → List WasmSubType → List (ℕ × ℕ) → Type 0
+ResolvesTo made types outer = map (named_at made) (group_refs types) ≡ map Some outer
 
 -- an index in a key names a type of this kind: a registered type, or a member of the key
 abbrev pub KeyNamesKind : List RegisteredGroup → List WasmSubType → Kind → EngineOrModuleTypeIndex → Type 0
@@ -42,13 +43,15 @@ pub record KeyNamesTypes (made : List RegisteredGroup) (types : List WasmSubType
   pub kinds : (ty : WasmSubType) (wanted : Kind) (i : EngineOrModuleTypeIndex) → Among ty types → Among (wanted, i) (kinded_refs ty) → KeyNamesKind made types wanted i
 
 -- What is true of one entry among those that are registered: its references that leave are indices of
--- registered types, which outer tells, of older groups; it has one index for each member; and what stands in it
--- names types of the kinds that are said.
+-- registered types, which outer tells, of older groups; it has one index for each member; what stands in it names
+-- types of the kinds that are said; and the trampolines of its members are told, which are older groups too.
 pub record IsKey (made : List RegisteredGroup) (entry : RecGroupEntry) : Type 0 where
-  pub names : Names made entry.hash_consing_key.types entry.outer
+  pub names : ResolvesTo made entry.hash_consing_key.types entry.outer
   pub older : (reference : ℕ × ℕ) → Among reference entry.outer → reference.0 < entry.number
   pub members : length entry.shared_type_indices ≡ length entry.hash_consing_key.types
   pub name_types : NamesTypes made (made_of entry).description
+  pub trampolines : TellTrampolines made (made_of entry).description.members entry.trampolines
+  pub older_trampolines : (number : ℕ) → Among (Some number) entry.trampolines → number < entry.number
 
 -- registered groups with different numbers have different trees
 abbrev pub AreApartTrees : List RegisteredGroup → Type 0

@@ -15,6 +15,9 @@ pub struct RecGroupEntry {
     /// The registration number and place that each reference names that leaves the group, in order of
     /// occurrence.
     pub outer: Seq<(u64, u32)>,
+    /// Of each member that is a function and not its own trampoline, the registration number of its trampoline's
+    /// group.
+    pub trampolines: Seq<Option<u64>>,
     /// The index of each member.
     pub shared_type_indices: Seq<VMSharedTypeIndex>,
 }

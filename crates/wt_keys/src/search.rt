@@ -1,9 +1,12 @@
 //! The plain searches of the registered groups: each looks at one after another.
 
-ghost use Rattle.std.specs.Prelude.{◌≡◌, ℕ, ◌^◌, ◌<◌, [], ◌∷◌, ◌++◌, length, false, IfOk, OnErr, ◌==◌, position, map, option_map};
+ghost use Rattle.std.specs.Prelude.{◌≡◌, ℕ, ◌^◌, ◌<◌, [], ◌∷◌, ◌++◌, length, false, IfOk, OnErr, ◌==◌, position, map, option_map, option_and_then, slice_get, unwrap_or, Some};
 ghost use Rattle.std.specs.List.{find, list_any, AllByRecursion};
 ghost use Rattle.std.specs.Option.{option_copied};
+ghost use Rattle.wt_env.specs.Among.{Among};
 ghost use Rattle.wt_env.specs.Equality.{rec_group_eq};
+ghost use Rattle.wt_tree.specs.Trampoline.{is_own_trampoline as own_test};
+ghost use Rattle.wt_model.specs.Trampolines.{trampoline_index};
 ghost use Rattle.wt_model.specs.Indices.{used, is_used as is_used_number, place_in, locate};
 ghost use Rattle.wt_model.specs.Shown.{sub_type_at};
 ghost use Rattle.wt_keys.specs.Keys.{AreKeys};
@@ -17,6 +20,7 @@ use wt_env::memory::OutOfMemory;
 use wt_env::seq::Seq;
 use wt_env::types::{VMSharedTypeIndex, WasmRecGroup, WasmSubType};
 use wt_model::live::LiveGroup;
+use wt_tree::trampoline::is_own_trampoline;
 
 /// The entry that has this key.
 pub fn find_group<'a>(entries: &'a [RecGroupEntry], key: &WasmRecGroup) -> Option<&'a RecGroupEntry>
@@ -102,6 +106,81 @@ pub fn number_at(entries: &[RecGroupEntry], index: VMSharedTypeIndex) -> Option<
     for entry in entries {
         if place_of(entry.shared_type_indices.as_slice(), index).is_some() {
             return Some(entry.number);
+        }
+    }
+    None
+}
+
+/// The entry that has this registration number.
+fn find_number(entries: &[RecGroupEntry], number: u64) -> Option<&RecGroupEntry>
+    ensures { option_copied result ≡ find (λ entry. entry.number == number) entries.now }
+{
+    entries.iter().find(|entry| entry.number == number)
+}
+
+/// The first index of the entry that has this registration number.
+fn first_index(entries: &[RecGroupEntry], number: u64) -> Option<VMSharedTypeIndex>
+    ensures { result ≡ option_and_then (λ entry. slice_get entry.shared_type_indices 0) (find (λ entry. entry.number == number) entries.now) }
+{
+    match find_number(entries, number) {
+        Some(entry) => entry.shared_type_indices.get(0).copied(),
+        None => None,
+    }
+}
+
+/// Whether the type at this place is its own trampoline.
+fn is_own_at(types: &Seq<WasmSubType>, place: usize) -> bool
+    ensures { result ≡ unwrap_or (option_map own_test (slice_get types.now place)) false }
+{
+    match types.get(place) {
+        Some(ty) => is_own_trampoline(ty),
+        None => false,
+    }
+}
+
+/// The number of another group that is told at this place.
+fn told_at(trampolines: &Seq<Option<u64>>, place: usize) -> Option<u64>
+    ensures { result ≡ option_and_then (λ told. told) (slice_get trampolines.now place) }
+{
+    match trampolines.get(place) {
+        Some(told) => *told,
+        None => None,
+    }
+}
+
+/// The index of the trampoline of the type that has this index, at this place of its entry.
+fn trampoline_at(
+    entries: &[RecGroupEntry],
+    entry: &RecGroupEntry,
+    place: usize,
+    index: VMSharedTypeIndex,
+) -> Option<VMSharedTypeIndex>
+    requires keys { (top : ℕ) × AreKeys entries.now top }
+    requires among { Among entry.now entries.now }
+    requires located { locate (made_by entries.now) index ≡ Some (entry.now.number, place) }
+    ensures { result ≡ trampoline_index (made_by entries.now) index }
+{
+    if is_own_at(&entry.hash_consing_key.types, place) {
+        return Some(index);
+    }
+    match told_at(&entry.trampolines, place) {
+        Some(number) => first_index(entries, number),
+        None => None,
+    }
+}
+
+/// The index of the trampoline of the function type that has this index; `None` where the index names no
+/// registered function type.
+pub fn trampoline_of(
+    entries: &[RecGroupEntry],
+    index: VMSharedTypeIndex,
+) -> Option<VMSharedTypeIndex>
+    requires keys { (top : ℕ) × AreKeys entries.now top }
+    ensures { result ≡ trampoline_index (made_by entries.now) index }
+{
+    for entry in entries {
+        if let Some(place) = place_of(entry.shared_type_indices.as_slice(), index) {
+            return trampoline_at(entries, entry, place, index);
         }
     }
     None

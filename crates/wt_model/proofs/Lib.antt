@@ -4,3 +4,4 @@ pub mod holds
 pub mod removal
 pub mod plan
 pub mod NamedTypes
+pub mod Trampolines

@@ -9,12 +9,12 @@ use Rattle.wt_model.specs.Holds.{held_at, waiting, times}
 use Rattle.wt_model.specs.Sound.{IsHeldBySome, IsRoot}
 
 -- What more holds of a party change, on each group as often as its number stands there: no other hold is
--- changed, the groups are registered now, each group that is new is one of them, each index is still that of
--- its group, and no group waits that didn't.
+-- changed, the groups are registered now, each group that is new is one of them or one of them leads to it, each
+-- index is still that of its group, and no group waits that didn't.
 pub record HoldChanges (old new : Registry) (party : ℕ) (numbers : List ℕ) : Type 0 where
   pub engine : new.engine ≡ old.engine
   pub registered : (n : ℕ) → Among n numbers → (group : RegisteredGroup) × Among group new.made × (group.number ≡ n)
-  pub made : (added : List RegisteredGroup) × (new.made ≡ old.made ++ added) × ((group : RegisteredGroup) → Among group added → Among group.number numbers)
+  pub made : (added : List RegisteredGroup) × (new.made ≡ old.made ++ added) × ((group : RegisteredGroup) → Among group added → (n : ℕ) × Among n numbers × Reach new.made n group.number)
   pub more : (n : ℕ) → held_at new.standings party n ≡ held_at old.standings party n + times n numbers
   pub others : (p n : ℕ) → p ≢ party → held_at new.standings p n ≡ held_at old.standings p n
   pub located : (i : VMSharedTypeIndex) (n : ℕ) → number_of old.made i ≡ Some n → number_of new.made i ≡ Some n

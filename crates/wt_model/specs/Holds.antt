@@ -103,13 +103,14 @@ abbrev pub hold_each : ℕ → List ℕ → List GroupHolds → List GroupHolds
 hold_each party [] standings = standings
 hold_each party (number ∷ rest) standings = hold_each party rest (change number (gained party) standings)
 
--- what a party holds of a module: one hold of each group for each time that it occurs, and the index of each
--- type
+-- what a party holds of a module: one hold of each group for each time that it occurs, the index of each type, and
+-- the index of the trampoline of each function type
 pub record Collection : Type 0 where
   pub engine : ℕ
   pub party : ℕ
   pub numbers : List ℕ
   pub map : List VMSharedTypeIndex
+  pub trampolines : List VMSharedTypeIndex
 
 -- The holds of a module's types are a party's in this registry: what it takes to release them.
 pub record IsHolding (registry : Registry) (types : Collection) : Type 0 where

@@ -3,8 +3,10 @@ pub mod Trees
 pub mod NamedTypes
 pub mod Indices
 pub mod Describe
+pub mod Trampolines
 pub mod Reach
 pub mod Holds
+pub mod FunctionIndices
 pub mod Plan
 pub mod Limits
 pub mod Registration

@@ -1,5 +1,5 @@
 -- What a registration of groups comes to, before any limit is tested and any hold is added.
-use Rattle.std.specs.Prelude.{◌≡◌, ℕ, ◌+◌, List, [], ◌∷◌, ◌++◌, length, Option, Some, None}
+use Rattle.std.specs.Prelude.{◌≡◌, ℕ, ◌+◌, ◌⊎◌, List, [], ◌∷◌, ◌++◌, length, Option, Some, None}
 use Rattle.wt_env.specs.Among.{Among}
 use Rattle.wt_env.specs.declared.types.VMSharedTypeIndex.{VMSharedTypeIndex}
 use Rattle.wt_env.specs.declared.types.WasmSubType.{WasmSubType}
@@ -7,10 +7,12 @@ use Rattle.wt_env.specs.declared.types.WasmRecGroup.{WasmRecGroup}
 use Rattle.wt_tree.specs.Canonical.{canonical_index}
 use Rattle.wt_tree.specs.MapRefs.{map_group_refs}
 use Rattle.wt_tree.specs.Tree.{Description}
+use Rattle.wt_tree.specs.Trampoline.{trampoline_tree, trampoline_alone, other_trampoline}
 use Rattle.wt_model.specs.declared.ever.EverRegistered.{EverRegistered}
 use Rattle.wt_model.specs.Registered.{RegisteredGroup, Registry}
 use Rattle.wt_model.specs.Indices.{used, assign_shared_type_indices}
 use Rattle.wt_model.specs.Describe.{describe, tree_of, find_tree}
+use Rattle.wt_model.specs.Trampolines.{trampoline_numbers}
 use Rattle.wt_model.specs.Reach.{edges}
 
 -- The groups that are registered, those that are new from the oldest on, how much was ever registered with
@@ -38,6 +40,7 @@ abbrev pub new_group : Plan → Description → RegisteredGroup
 new_group plan description = record {
   number = plan.given.numbers + 1;
   description = description;
+  trampolines = trampoline_numbers (groups_of plan) description.members;
   indices = assign_shared_type_indices (length description.members) (used (groups_of plan));
 }
 
@@ -52,13 +55,37 @@ ever_with given group = record {
 abbrev pub with_added : Plan → RegisteredGroup → Plan
 with_added plan group = record plan { added = plan.added ++ group ∷ []; given = ever_with plan.given group }
 
-abbrev pub planned : Plan → Description → Option RegisteredGroup → Plan
-planned plan description (Some group) = with_occurrence plan group
-planned plan description None = with_occurrence (with_added plan (new_group plan description)) (new_group plan description)
+-- ---- the trampolines of a new group
 
--- One more group, whose references that leave it are engine indices: a group that has its tree is that group.
+abbrev pub trampoline_planned : Plan → WasmSubType → Option RegisteredGroup → Plan
+trampoline_planned plan member (Some group) = plan
+trampoline_planned plan member None = with_added plan (new_group plan (trampoline_alone member))
+
+-- the trampoline of a member, where it isn't the member itself: a group of its own, which may be there already
+abbrev pub plan_trampoline : Plan → Option WasmSubType → Plan
+plan_trampoline plan None = plan
+plan_trampoline plan (Some member) = trampoline_planned plan member (find_tree (groups_of plan) (trampoline_tree member))
+
+-- those of members, in order
+abbrev pub plan_trampolines : Plan → List WasmSubType → Plan
+plan_trampolines plan [] = plan
+plan_trampolines plan (ty ∷ members) = plan_trampolines (plan_trampoline plan (other_trampoline ty)) members
+
+-- ---- one more group
+
+abbrev pub with_new : Plan → List WasmSubType → Plan
+with_new plan key =
+    let group = new_group plan (describe (groups_of plan) key) in
+    with_occurrence (with_added plan group) group
+
+abbrev pub planned : Plan → List WasmSubType → Option RegisteredGroup → Plan
+planned plan key (Some group) = with_occurrence plan group
+planned plan key None = with_new (plan_trampolines plan key) key
+
+-- One more group, whose references that leave it are engine indices: a group that has its tree is that group. A new
+-- one comes behind the trampolines of its members that are missing.
 abbrev pub plan_key : Plan → List WasmSubType → Plan
-plan_key plan key = planned plan (describe (groups_of plan) key) (find_tree (groups_of plan) (tree_of (groups_of plan) key))
+plan_key plan key = planned plan key (find_tree (groups_of plan) (tree_of (groups_of plan) key))
 
 -- one more group of a module, whose types count from behind those so far
 abbrev pub plan_group : Plan → WasmRecGroup → Plan
@@ -69,7 +96,8 @@ abbrev pub plan_groups : Plan → List WasmRecGroup → Plan
 plan_groups plan [] = plan
 plan_groups plan (group ∷ groups) = plan_groups (plan_group plan group) groups
 
--- Each new group occurs, and what occurs is registered or new.
+-- Each new group occurs, or a group that occurs leads to it; and what occurs is registered or new.
 pub record Occurs (plan : Plan) : Type 0 where
-  pub every : (group : RegisteredGroup) → Among group plan.added → Among group.number plan.numbers
+  pub every : (group : RegisteredGroup) → Among group plan.added
+      → (by : RegisteredGroup) × Among by (groups_of plan) × Among by.number plan.numbers × ((group.number ≡ by.number) ⊎ Among group.number (edges by))
   pub only : (number : ℕ) → Among number plan.numbers → (group : RegisteredGroup) × Among group (groups_of plan) × (group.number ≡ number)

@@ -1,13 +1,13 @@
 -- Which groups lead to which.
-use Rattle.std.specs.Prelude.{◌≡◌, ℕ, ◌==◌, List, map, Bool}
-use Rattle.std.specs.List.{list_any}
+use Rattle.std.specs.Prelude.{◌≡◌, ℕ, ◌==◌, List, ◌++◌, map, Bool}
+use Rattle.std.specs.List.{list_any, filter_map}
 use Rattle.wt_env.specs.Among.{Among}
 use Rattle.wt_model.specs.Registered.{RegisteredGroup}
 
--- The edges of a group: the registration number that each of its references names which leaves it, each
--- occurrence counted, in order.
+-- The edges of a group: the registration number that each of its references names which leaves it, in order, and
+-- then that of the trampoline of each member that is a function and not its own trampoline; each occurrence counted.
 abbrev pub edges : RegisteredGroup → List ℕ
-edges group = map (λ reference. reference.0) group.description.outer
+edges group = map (λ reference. reference.0) group.description.outer ++ filter_map (λ number. number) group.trampolines
 
 -- whether an edge leads from the group to the one with this number
 abbrev pub leads_to : RegisteredGroup → ℕ → Bool

@@ -13,6 +13,7 @@ use Rattle.wt_model.specs.declared.refusal.BuildRefusal.{BuildRefusal}
 use Rattle.wt_model.specs.declared.refusal.BuildRefusal.TheVariants as refusal
 use Rattle.wt_model.specs.Registered.{RegisteredGroup, GroupHolds, Registry}
 use Rattle.wt_model.specs.Describe.{tree_of}
+use Rattle.wt_model.specs.Trampolines.{trampolines_of}
 use Rattle.wt_model.specs.Reach.{edges}
 use Rattle.wt_model.specs.Holds.{Hold, Collection, stop_waiting, hold_each}
 use Rattle.wt_model.specs.Plan.{Plan, empty_plan, groups_of, plan_key, plan_groups}
@@ -129,7 +130,13 @@ register registry party ty =
     made_unless (registration_refusal registry party (host_type ty)) (hold_of registry.engine.number party plan, carried_out registry party plan)
 
 abbrev pub collection_of : ℕ → ℕ → Plan → Collection
-collection_of engine party plan = record { engine = engine; party = party; numbers = plan.numbers; map = plan.map }
+collection_of engine party plan = record {
+  engine = engine;
+  party = party;
+  numbers = plan.numbers;
+  map = plan.map;
+  trampolines = trampolines_of (groups_of plan) plan.map;
+}
 
 -- A registration of a module's groups by a party: what it holds then and the registry after it, or the first
 -- cause why not.

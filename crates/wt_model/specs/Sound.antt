@@ -6,6 +6,7 @@ use Rattle.wt_env.specs.declared.types.VMSharedTypeIndex.{VMSharedTypeIndex}
 use Rattle.wt_model.specs.Registered.{RegisteredGroup, GroupHolds, Registry}
 use Rattle.wt_model.specs.Trees.{trees}
 use Rattle.wt_model.specs.NamedTypes.{NameTypes}
+use Rattle.wt_model.specs.Trampolines.{HaveTrampolines}
 use Rattle.wt_model.specs.Indices.{locate}
 use Rattle.wt_model.specs.Reach.{edges, Reach}
 use Rattle.wt_model.specs.Holds.{is_held, held_at, waiting}
@@ -84,5 +85,6 @@ pub record IsSound (registry : Registry) : Type 0 where
   pub indexed : AreIndexed registry.made
   pub below : AreBelow registry.engine.limits.types registry.made
   pub name_types : NameTypes registry.made
+  pub trampolines : HaveTrampolines registry.made
   pub holds : HoldsInvariant registry.engine registry.made registry.standings
   pub reached : AreReached registry

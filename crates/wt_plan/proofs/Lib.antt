@@ -1,9 +1,12 @@
 pub mod Joined
+pub mod GrownKeys
 pub mod ModuleKeys
 pub mod ModuleKinds
 pub mod HostKeys
 pub mod Named
 pub mod PlannedGroups
 pub mod Planning
+pub mod PlannedTrampolines
 pub mod Checked
+pub mod CountedEdges
 pub mod NewIndices

@@ -22,7 +22,7 @@ use Rattle.wt_model.specs.Trees.{trees}
 use Rattle.wt_model.specs.Indices.{locate, closed_tree}
 use Rattle.wt_model.specs.Describe.{located, tree_of}
 use Rattle.wt_keys.specs.Keys.{named_at}
-use Rattle.wt_plan.specs.Planned.{AreNamed}
+use Rattle.wt_plan.specs.Planned.{AreResolved}
 use Rattle.wt_rules.proofs.ModuleReferences.{leaving-module}
 use Rattle.wt_rules.specs.Rules.{is_module_index, AreModuleTypes}
 use Rattle.wt_env.proofs.lists.Members.{get_among}
@@ -82,7 +82,7 @@ known-named made indices stand (r ∷ refs) earlier =
 pub canonical-named : (made : List RegisteredGroup) (indices : List VMSharedTypeIndex) (types : List WasmSubType)
     → ((i : EngineOrModuleTypeIndex) → Among i (group_refs types) → is_module_index i ≡ true)
     → ((i : VMSharedTypeIndex) → Among i indices → (at : ℕ × ℕ) × (locate made i ≡ Some at))
-    → AreNamed made (map_group_refs (canonical_index (length indices) indices) types)
+    → AreResolved made (map_group_refs (canonical_index (length indices) indices) types)
 canonical-named made indices types module_only stand =
     let own = map_group_refs (own_index (length indices)) types in
     let named = known-named made indices stand (group_refs own) (own_refs-module (length indices) types module_only) in

@@ -1,5 +1,6 @@
 -- The groups of a module that were planned so far, and one more.
-use Rattle.std.proofs.Common.{◌≡◌, ℕ, ◌+◌, ◌⊎◌, inl, inr, true, List, [], ◌∷◌, ◌++◌, length, map, slice_get, Some, refl, sym, ap, subst, ◌∙◌, append_assoc}
+use Rattle.std.proofs.Common.{◌≡◌, ℕ, ◌+◌, ◌⊎◌, inl, inr, true, List, [], ◌∷◌, ◌++◌, length, map, slice_get, Option, Some, refl, sym, ap, subst, ◌∙◌, append_assoc}
+use Rattle.std.specs.List.{filter_map}
 use Rattle.std.proofs.lemmas.List.{map-append, length-map, length-append, append-nil}
 use Rattle.wt_env.specs.declared.types.VMSharedTypeIndex.{VMSharedTypeIndex}
 use Rattle.wt_env.specs.declared.types.EngineOrModuleTypeIndex.{EngineOrModuleTypeIndex}
@@ -16,28 +17,32 @@ use Rattle.wt_plan.specs.declared.plan.Plan.{Plan as PlanFields}
 use Rattle.wt_model.specs.Registered.{RegisteredGroup}
 use Rattle.wt_env.specs.Among.{Among}
 use Rattle.wt_model.specs.Indices.{locate, closed_tree}
+use Rattle.wt_model.specs.Trees.{trees}
+use Rattle.wt_model.specs.Reach.{edges}
 use Rattle.wt_model.specs.Describe.{tree_of}
+use Rattle.wt_model.proofs.Trampolines.{told-among}
 use Rattle.wt_keys.specs.Entries.{made_of, made_by}
-use Rattle.wt_keys.specs.Keys.{AreKeys, IsNewKey, own_shown}
+use Rattle.wt_keys.specs.Keys.{AreKeys}
 use Rattle.wt_keys.specs.Keys.{AreShown}
 use Rattle.wt_model.specs.Plan.{Plan, Occurs, plan_group, plan_groups}
-use Rattle.wt_plan.specs.Planned.{AreNewBelow, PlansOne, plan_of}
+use Rattle.wt_plan.specs.Planned.{AreResolved, AreNewBelow, AreNewKeys, PlansOne, plan_of}
 use Rattle.wt_env.specs.declared.types.Kind.{Kind}
 use Rattle.wt_rules.specs.Rules.{total_members, member_kind, kinds_of, is_module_index}
 use Rattle.wt_rules.proofs.KeptRules.{kinds_of-append, length-kinds_of, total_members-more}
 use Rattle.wt_env.proofs.lists.Mapped.{among_map, among_mapped, among_last}
-use Rattle.wt_keys.proofs.AddedKeys.{closed_tree-kept, closed_tree-new, closed_tree-registered}
+use Rattle.wt_keys.proofs.AddedKeys.{closed_tree-registered}
 use Rattle.wt_keys.proofs.KeyTrees.{tree-of_key}
-use Rattle.wt_env.proofs.lists.Members.{among_before, among_pushed}
+use Rattle.wt_env.proofs.lists.Members.{among_before, among_behind, among_either, among_pushed}
 use Rattle.wt_model.proofs.trees.KnownTrees.{members-named, trees-located}
 use Rattle.wt_plan.proofs.ModuleKeys.{canonical-tree}
-use Rattle.wt_plan.proofs.NewIndices.{new_below-pushed}
+use Rattle.wt_plan.proofs.GrownKeys.{new_below-all, closed_tree-grown, tree_of-grown, shown-joined}
 use Rattle.wt_plan.proofs.ModuleKinds.{AreOfKinds, of_kinds-before, of_kinds-joined, of_kinds-entry}
 use Rattle.wt_plan.proofs.Planning.{groups_of-joined}
 
--- each new entry occurs, and what occurs stands or is new
+-- each new entry occurs, or one that occurs leads to it; and what occurs stands or is new
 pub record EntriesOccur (all added : List RecGroupEntry) (numbers : List ℕ) : Type 0 where
-  pub every : (entry : RecGroupEntry) → Among entry added → Among entry.number numbers
+  pub every : (entry : RecGroupEntry) → Among entry added
+      → (by : RecGroupEntry) × Among by all × Among by.number numbers × ((entry.number ≡ by.number) ⊎ Among (Some entry.number) by.trampolines)
   pub only : (number : ℕ) → Among number numbers → (entry : RecGroupEntry) × Among entry all × (entry.number ≡ number)
 
 -- what is true of a plan of the groups so far
@@ -61,40 +66,56 @@ key_of plan group = map_group_refs (canonical_index (length plan.map.items) plan
 
 -- ---- what stands where one more was planned
 
-occurs-found : (all added : List RecGroupEntry) (numbers : List ℕ) (entry : RecGroupEntry) → EntriesOccur all added numbers → Among entry all → EntriesOccur all added (numbers ++ entry.number ∷ [])
-occurs-found all added numbers entry occurs at = record {
-  every = λ e there. among_before numbers (entry.number ∷ []) e.number (occurs.every e there);
-  only = λ n there. elim (among_pushed numbers entry.number n there) [ inl before ↦ occurs.only n before | inr same ↦ (entry, at, sym same) ];
-}
+-- an entry that stands among more
+among-grown : (entries before more after : List RecGroupEntry) (e : RecGroupEntry) → after ≡ before ++ more → Among e (entries ++ before) → Among e (entries ++ after)
+among-grown entries before more after e same at =
+    subst (Among e) (append_assoc entries before more ∙ ap (λ (added : List RecGroupEntry). entries ++ added) (sym same)) (among_before (entries ++ before) more e at)
 
-occurs-new : (entries added : List RecGroupEntry) (numbers : List ℕ) (entry : RecGroupEntry) → EntriesOccur (entries ++ added) added numbers → EntriesOccur (entries ++ (added ++ entry ∷ [])) (added ++ entry ∷ []) (numbers ++ entry.number ∷ [])
-occurs-new entries added numbers entry occurs = record {
-  every = λ e there. elim (among_pushed added entry e there) [
-    | inl before ↦ among_before numbers (entry.number ∷ []) e.number (occurs.every e before)
-    | inr same ↦ subst (λ (x : RecGroupEntry). Among x.number (numbers ++ entry.number ∷ [])) (sym same) (among_last numbers entry.number)
-  ];
-  only = λ n there. elim (among_pushed numbers entry.number n there) [
-    | inl before ↦ wider (occurs.only n before)
-    | inr same ↦ (entry, subst (Among entry) (append_assoc entries added (entry ∷ [])) (among_last (entries ++ added) entry), sym same)
-  ];
+-- what occurs where one more was planned
+pub occurs-more : (entries : List RecGroupEntry) (before after : PlanFields) (types : List WasmSubType) → EntriesOccur (entries ++ before.added.items) before.added.items before.numbers.items → PlansOne entries before after types
+    → EntriesOccur (entries ++ after.added.items) after.added.items after.numbers.items
+occurs-more entries before after types occurs one = record {
+  every = λ e at. every e (among_either before.added.items one.more e (subst (Among e) one.plans.added at));
+  only = λ n at. only n (among_pushed before.numbers.items one.entry.number n (subst (Among n) one.numbers at));
 }
   where
-    wider : {n : ℕ} → (e : RecGroupEntry) × Among e (entries ++ added) × (e.number ≡ n) → (e : RecGroupEntry) × Among e (entries ++ (added ++ entry ∷ [])) × (e.number ≡ n)
-    wider found = (found.0, subst (Among found.0) (append_assoc entries added (entry ∷ [])) (among_before (entries ++ added) (entry ∷ []) found.0 found.1), found.2)
+    wider : (e : RecGroupEntry) → Among e (entries ++ before.added.items) → Among e (entries ++ after.added.items)
+    wider e at = among-grown entries before.added.items one.more after.added.items e one.plans.added at
+
+    counted : (n : ℕ) → Among n before.numbers.items → Among n after.numbers.items
+    counted n at = subst (Among n) (sym one.numbers) (among_before before.numbers.items (one.entry.number ∷ []) n at)
+
+    own : Among one.entry.number after.numbers.items
+    own = subst (Among one.entry.number) (sym one.numbers) (among_last before.numbers.items one.entry.number)
+
+    every : (e : RecGroupEntry) → Among e before.added.items ⊎ Among e one.more
+        → (by : RecGroupEntry) × Among by (entries ++ after.added.items) × Among by.number after.numbers.items × ((e.number ≡ by.number) ⊎ Among (Some e.number) by.trampolines)
+    every e (inl old) = let was = occurs.every e old in (was.0, wider was.0 was.1, counted (was.0).number was.2, was.3)
+    every e (inr new) = (one.entry, one.stands, own, one.led e new)
+
+    only : (n : ℕ) → Among n before.numbers.items ⊎ (n ≡ one.entry.number) → (entry : RecGroupEntry) × Among entry (entries ++ after.added.items) × (entry.number ≡ n)
+    only n (inl old) = let was = occurs.only n old in (was.0, wider was.0 was.1, was.2)
+    only n (inr same) = (one.entry, one.stands, sym same)
 
 -- the same of the groups
+led : (n : ℕ) (by : RecGroupEntry) → (n ≡ by.number) ⊎ Among (Some n) by.trampolines → (n ≡ by.number) ⊎ Among n (edges (made_of by))
+led n by (inl same) = inl same
+led n by (inr told) = inr (among_behind (map (λ (r : ℕ × ℕ). r.0) by.outer) (filter_map (λ (number : Option ℕ). number) by.trampolines) n (told-among n by.trampolines told))
+
 pub occurs-groups : (entries : List RecGroupEntry) (plan : PlanFields) → EntriesOccur (entries ++ plan.added.items) plan.added.items plan.numbers.items → Occurs (plan_of entries plan)
 occurs-groups entries plan occurs = record {
   every = λ group at.
       let named = among_map made_of plan.added.items group at in
-      subst (λ (m : RegisteredGroup). Among m.number plan.numbers.items) (sym named.2) (occurs.every named.0 named.1);
+      let was = occurs.every named.0 named.1 in (
+        made_of was.0,
+        subst (Among (made_of was.0)) (sym (groups_of-joined entries plan)) (among_mapped made_of (entries ++ plan.added.items) was.0 was.1),
+        was.2,
+        subst (λ (m : RegisteredGroup). (m.number ≡ (was.0).number) ⊎ Among m.number (edges (made_of was.0))) (sym named.2) (led (named.0).number was.0 was.3),
+      );
   only = λ number at.
       let found = occurs.only number at in
       (made_of found.0, subst (Among (made_of found.0)) (sym (groups_of-joined entries plan)) (among_mapped made_of (entries ++ plan.added.items) found.0 found.1), found.2);
 }
-
-shown-new : (added : List RecGroupEntry) (entry : RecGroupEntry) → AreShown added → AreShown (entry ∷ []) → AreShown (added ++ entry ∷ [])
-shown-new added entry shown own e there = elim (among_pushed added entry e there) [ inl before ↦ shown e before | inr same ↦ own e (inl same) ]
 
 -- ---- the closed trees
 
@@ -107,28 +128,51 @@ named-joined made before indices known tree count first members long =
     ∙ (λ i. first i ++ (members-named made tree indices members ∙ ap (λ (n : ℕ). map Some (members_from tree 0 n)) long) i)
     ∙ sym (map-append Some known (members_from tree 0 count))
 
--- earlier trees stay where a group is added
-named-kept : (all : List RecGroupEntry) (top : ℕ) (entry : RecGroupEntry) (indices : List VMSharedTypeIndex) → AreKeys all top → IsNewKey all top entry → ((i : VMSharedTypeIndex) → Among i indices → (at : ℕ × ℕ) × (locate (made_by all) i ≡ Some at))
-    → map (closed_tree (made_by (all ++ entry ∷ []))) indices ≡ map (closed_tree (made_by all)) indices
-named-kept all top entry [] keys new stand = refl
-named-kept all top entry (i ∷ indices) keys new stand =
+-- earlier trees stay where groups are added
+named-grown_all : (all : List RecGroupEntry) (top : ℕ) (more : List RecGroupEntry) (indices : List VMSharedTypeIndex) → AreKeys all top → AreNewKeys all top more → ((i : VMSharedTypeIndex) → Among i indices → (at : ℕ × ℕ) × (locate (made_by all) i ≡ Some at))
+    → map (closed_tree (made_by (all ++ more))) indices ≡ map (closed_tree (made_by all)) indices
+named-grown_all all top more [] keys new stand = refl
+named-grown_all all top more (i ∷ indices) keys new stand =
     let here = stand i (inl refl) in
-    let first = closed_tree-kept all top entry keys new i here.0 here.1 in
-    let rest = named-kept all top entry indices keys new (λ j there. stand j (inr there)) in
+    let first = closed_tree-grown all top more keys new i here.0 here.1 in
+    let rest = named-grown_all all top more indices keys new (λ j there. stand j (inr there)) in
     λ k. first k ∷ rest k
 
 -- as many indices as the group has types
-as_many : (all : List RecGroupEntry) (made : List RegisteredGroup) (entry : RecGroupEntry) (plan : PlanFields) (group : WasmRecGroup) → length entry.shared_type_indices ≡ length entry.hash_consing_key.types → entry.hash_consing_key.types ≡ key_of plan group → length entry.shared_type_indices ≡ length group.types
-as_many all made entry plan group members same =
+as_many : (entry : RecGroupEntry) (plan : PlanFields) (group : WasmRecGroup) → length entry.shared_type_indices ≡ length entry.hash_consing_key.types → entry.hash_consing_key.types ≡ key_of plan group → length entry.shared_type_indices ≡ length group.types
+as_many entry plan group members same =
     members ∙ ap (λ (types : List WasmSubType). length types) same
     ∙ length-map group.types (map_sub_refs (canonical_index (length plan.map.items) plan.map.items))
 
 pub plans-more : (entries : List RecGroupEntry) (groups : List WasmRecGroup) (first plan after : PlanFields) (group : WasmRecGroup)
     → ((i : EngineOrModuleTypeIndex) → Among i (group_refs group.types) → is_module_index i ≡ true)
+    → AreResolved (made_by (entries ++ plan.added.items)) (key_of plan group)
     → Plans entries groups first plan → PlansOne entries plan after (key_of plan group) → AreKeys (entries ++ after.added.items) after.given.numbers
     → plan_group (plan_of entries plan) group ≡ plan_of entries after
     → Plans entries (groups ++ group ∷ []) first after
-plans-more entries groups first plan after group module_only plans one keys step = by one.stands
+plans-more entries groups first plan after group module_only named plans one keys step = record {
+  keys = keys;
+  planned =
+      plan_groups-more (plan_of entries first) groups group
+      ∙ ap (λ (p : Plan). plan_group p group) plans.planned
+      ∙ step;
+  shown = subst AreShown (sym one.plans.added) (shown-joined plan.added.items one.more plans.shown one.plans.shown);
+  below = subst (AreNewBelow entries) (sym one.plans.added) (new_below-all entries plan.added.items plan.given.numbers one.more plans.below one.plans.new);
+  occurs = occurs-more entries plan after (key_of plan group) plans.occurs one;
+  named =
+      ap (map (closed_tree made)) one.map
+      ∙ named-joined made plan.map.items one.entry.shared_type_indices known tree (length group.types) earlier own_trees as_many_types
+      ∙ ap (map Some) (sym (module_trees-more [] groups group));
+  count =
+      ap length one.map
+      ∙ length-append plan.map.items one.entry.shared_type_indices
+      ∙ (λ i. plans.count i + as_many_types i)
+      ∙ sym (total_members-more groups group);
+  of_kinds =
+      subst (λ (indices : List VMSharedTypeIndex). AreOfKinds made indices (kinds_of (groups ++ group ∷ []))) (sym one.map)
+      (subst (AreOfKinds made (plan.map.items ++ one.entry.shared_type_indices)) kinds
+      (of_kinds-joined made plan.map.items one.entry.shared_type_indices (kinds_of groups) (map member_kind group.types) (plans.count ∙ sym (length-kinds_of groups)) earlier_kinds own_kinds));
+}
   where
     all : List RecGroupEntry
     all = entries ++ plan.added.items
@@ -139,101 +183,46 @@ plans-more entries groups first plan after group module_only plans one keys step
     tree : Tree
     tree = group_tree known group.types
 
-    planned : plan_groups (plan_of entries first) (groups ++ group ∷ []) ≡ plan_of entries after
-    planned =
-        plan_groups-more (plan_of entries first) groups group
-        ∙ ap (λ (p : Plan). plan_group p group) plans.planned
-        ∙ step
+    -- what stands then
+    made : List RegisteredGroup
+    made = made_by (entries ++ after.added.items)
 
-    own_tree : tree_of (made_by all) one.entry.hash_consing_key.types ≡ tree
-    own_tree = ap (tree_of (made_by all)) one.group ∙ canonical-tree (made_by all) plan.map.items known group.types module_only plans.named
+    grown : all ++ one.more ≡ entries ++ after.added.items
+    grown = append_assoc entries plan.added.items one.more ∙ ap (λ (added : List RecGroupEntry). entries ++ added) (sym one.plans.added)
 
-    trees_so_far : (made : List RegisteredGroup) → map (closed_tree made) plan.map.items ≡ map Some known
-        → ((k : ℕ) (i : VMSharedTypeIndex) → slice_get one.entry.shared_type_indices k ≡ Some i → closed_tree made i ≡ Some (record { tree = tree; place = k })) → length one.entry.shared_type_indices ≡ length one.entry.hash_consing_key.types
-        → map (closed_tree made) after.map.items ≡ map Some (module_trees [] (groups ++ group ∷ []))
-    trees_so_far made before members long =
-        ap (map (closed_tree made)) one.map
-        ∙ named-joined made plan.map.items one.entry.shared_type_indices known tree (length group.types) before members (as_many all made one.entry plan group long one.group)
-        ∙ ap (map Some) (sym (module_trees-more [] groups group))
+    as_many_types : length one.entry.shared_type_indices ≡ length group.types
+    as_many_types = as_many one.entry plan group (keys.keys one.entry one.stands).members one.group
 
-    -- the entry is there after the step, and with it the kinds of the group's types
-    indices_more : Among one.entry (entries ++ after.added.items) → length one.entry.shared_type_indices ≡ length group.types
-    indices_more at = as_many all (made_by all) one.entry plan group (keys.keys one.entry at).members one.group
+    earlier : map (closed_tree made) plan.map.items ≡ map Some known
+    earlier =
+        ap (λ (es : List RecGroupEntry). map (closed_tree (made_by es)) plan.map.items) (sym grown)
+        ∙ named-grown_all all plan.given.numbers one.more plan.map.items plans.keys one.plans.new (trees-located (made_by all) plan.map.items known plans.named)
+        ∙ plans.named
 
-    count_after : Among one.entry (entries ++ after.added.items) → length after.map.items ≡ total_members (groups ++ group ∷ [])
-    count_after at =
-        let more = indices_more at in
-        ap length one.map
-        ∙ length-append plan.map.items one.entry.shared_type_indices
-        ∙ (λ i. plans.count i + more i)
-        ∙ sym (total_members-more groups group)
+    -- the tree of the entry is that of the module's group
+    own_tree : trees made one.entry.number ≡ tree
+    own_tree =
+        tree-of_key (entries ++ after.added.items) after.given.numbers one.entry keys one.stands
+        ∙ ap (tree_of made) one.group
+        ∙ ap (λ (es : List RecGroupEntry). tree_of (made_by es) (key_of plan group)) (sym grown)
+        ∙ tree_of-grown all plan.given.numbers one.more plans.keys one.plans.new (key_of plan group) named.0 named.1
+        ∙ canonical-tree (made_by all) plan.map.items known group.types module_only plans.named
 
-    kinds_after : Among one.entry (entries ++ after.added.items) → AreOfKinds (made_by (entries ++ after.added.items)) plan.map.items (kinds_of groups)
-        → AreOfKinds (made_by (entries ++ after.added.items)) after.map.items (kinds_of (groups ++ group ∷ []))
-    kinds_after at before =
-        let made = made_by (entries ++ after.added.items) in
-        let own =
+    own_trees : (k : ℕ) (i : VMSharedTypeIndex) → slice_get one.entry.shared_type_indices k ≡ Some i → closed_tree made i ≡ Some (record { tree = tree; place = k })
+    own_trees k i is =
+        closed_tree-registered (entries ++ after.added.items) after.given.numbers one.entry k i keys one.stands is
+        ∙ ap (λ (t : Tree). Some (record { tree = t; place = k })) own_tree
+
+    earlier_kinds : AreOfKinds made plan.map.items (kinds_of groups)
+    earlier_kinds =
+        subst (λ (es : List RecGroupEntry). AreOfKinds (made_by es) plan.map.items (kinds_of groups)) grown
+        (subst (λ (groups_then : List RegisteredGroup). AreOfKinds groups_then plan.map.items (kinds_of groups)) (sym (map-append made_of all one.more))
+        (of_kinds-before (made_by all) (made_by one.more) plan.map.items (kinds_of groups) plans.of_kinds))
+
+    own_kinds : AreOfKinds made one.entry.shared_type_indices (map member_kind group.types)
+    own_kinds =
         of_kinds-entry made one.entry (canonical_index (length plan.map.items) plan.map.items) group.types keys.located
-        (among_mapped made_of (entries ++ after.added.items) one.entry at) one.group in
-        let long = plans.count ∙ sym (length-kinds_of groups) in
-        let kinds : kinds_of groups ++ map member_kind group.types ≡ kinds_of (groups ++ group ∷ []) =
-        ap (λ (more : List Kind). kinds_of groups ++ more) (sym (append-nil (map member_kind group.types))) ∙ sym (kinds_of-append groups (group ∷ [])) in
-        subst (λ (indices : List VMSharedTypeIndex). AreOfKinds made indices (kinds_of (groups ++ group ∷ []))) (sym one.map)
-        (subst (AreOfKinds made (plan.map.items ++ one.entry.shared_type_indices)) kinds
-        (of_kinds-joined made plan.map.items one.entry.shared_type_indices (kinds_of groups) (map member_kind group.types) long before own))
+        (among_mapped made_of (entries ++ after.added.items) one.entry one.stands) one.group
 
-    -- the group was there
-    found : (after.added.items ≡ plan.added.items) → Among one.entry all → Plans entries (groups ++ group ∷ []) first after
-    found same at = record {
-      keys = keys;
-      planned = planned;
-      shown = subst AreShown (sym same) plans.shown;
-      below = subst (AreNewBelow entries) (sym same) plans.below;
-      occurs =
-          subst (λ (numbers : List ℕ). EntriesOccur (entries ++ after.added.items) after.added.items numbers) (sym one.numbers)
-          (subst (λ (added : List RecGroupEntry). EntriesOccur (entries ++ added) added (plan.numbers.items ++ one.entry.number ∷ [])) (sym same)
-          (occurs-found all plan.added.items plan.numbers.items one.entry plans.occurs at));
-      named =
-          subst (λ (added : List RecGroupEntry). map (closed_tree (made_by (entries ++ added))) after.map.items ≡ map Some (module_trees [] (groups ++ group ∷ []))) (sym same)
-          (trees_so_far (made_by all) plans.named
-          (λ k i is. closed_tree-registered all plan.given.numbers one.entry k i plans.keys at is
-          ∙ ap (λ (t : Tree). Some (record { tree = t; place = k })) (tree-of_key all plan.given.numbers one.entry plans.keys at ∙ own_tree))
-          (plans.keys.keys one.entry at).members);
-      count = count_after (subst (λ (added : List RecGroupEntry). Among one.entry (entries ++ added)) (sym same) at);
-      of_kinds =
-          kinds_after (subst (λ (added : List RecGroupEntry). Among one.entry (entries ++ added)) (sym same) at)
-          (subst (λ (added : List RecGroupEntry). AreOfKinds (made_by (entries ++ added)) plan.map.items (kinds_of groups)) (sym same) plans.of_kinds);
-    }
-
-    -- the group is new
-    added : (after.added.items ≡ plan.added.items ++ one.entry ∷ []) → IsNewKey all plan.given.numbers one.entry → AreShown (one.entry ∷ []) → Plans entries (groups ++ group ∷ []) first after
-    added grown new own =
-        let joined : all ++ one.entry ∷ [] ≡ entries ++ after.added.items = append_assoc entries plan.added.items (one.entry ∷ []) ∙ ap (λ (more : List RecGroupEntry). entries ++ more) (sym grown) in
-        record {
-          keys = keys;
-          planned = planned;
-          shown = subst AreShown (sym grown) (shown-new plan.added.items one.entry plans.shown own);
-          below = subst (AreNewBelow entries) (sym grown) (new_below-pushed entries plan.added.items plan.given.numbers one.entry plans.below new);
-          occurs =
-              subst (λ (numbers : List ℕ). EntriesOccur (entries ++ after.added.items) after.added.items numbers) (sym one.numbers)
-              (subst (λ (added : List RecGroupEntry). EntriesOccur (entries ++ added) added (plan.numbers.items ++ one.entry.number ∷ [])) (sym grown)
-              (occurs-new entries plan.added.items plan.numbers.items one.entry plans.occurs));
-          named =
-              subst (λ (whole : List RecGroupEntry). map (closed_tree (made_by whole)) after.map.items ≡ map Some (module_trees [] (groups ++ group ∷ []))) joined
-              (trees_so_far (made_by (all ++ one.entry ∷ []))
-              (named-kept all plan.given.numbers one.entry plan.map.items plans.keys new (trees-located (made_by all) plan.map.items known plans.named) ∙ plans.named)
-              (λ k i is. closed_tree-new all plan.given.numbers one.entry k i plans.keys new is ∙ ap (λ (t : Tree). Some (record { tree = t; place = k })) own_tree)
-              new.key.members);
-          count = count_after (subst (Among one.entry) joined (among_last all one.entry));
-          of_kinds =
-              kinds_after (subst (Among one.entry) joined (among_last all one.entry))
-              (subst (λ (whole : List RecGroupEntry). AreOfKinds (made_by whole) plan.map.items (kinds_of groups)) joined
-              (subst (λ (made : List RegisteredGroup). AreOfKinds made plan.map.items (kinds_of groups)) (sym (map-append made_of all (one.entry ∷ [])))
-              (of_kinds-before (made_by all) (made_of one.entry ∷ []) plan.map.items (kinds_of groups) plans.of_kinds)));
-        }
-
-    by : ((after.added.items ≡ plan.added.items) × Among one.entry all × (after.given.numbers ≡ plan.given.numbers))
-        ⊎ ((after.added.items ≡ plan.added.items ++ one.entry ∷ []) × IsNewKey all plan.given.numbers one.entry × (after.given.numbers ≡ plan.given.numbers + 1) × (one.entry.runtime_types ≡ map_group_refs (own_shown one.entry.shared_type_indices) one.entry.hash_consing_key.types))
-        → Plans entries (groups ++ group ∷ []) first after
-    by (inl was) = found was.0 was.1
-    by (inr is) = added is.0 is.1 (λ e there. elim there [ inl same ↦ subst (λ (x : RecGroupEntry). x.runtime_types ≡ map_group_refs (own_shown x.shared_type_indices) x.hash_consing_key.types) (sym same) is.3 | inr none ↦ absurd none ])
+    kinds : kinds_of groups ++ map member_kind group.types ≡ kinds_of (groups ++ group ∷ [])
+    kinds = ap (λ (more : List Kind). kinds_of groups ++ more) (sym (append-nil (map member_kind group.types))) ∙ sym (kinds_of-append groups (group ∷ []))

@@ -1,20 +1,21 @@
 -- The plan that the fields of one stand for.
-use Rattle.std.specs.Prelude.{◌≡◌, ℕ, ◌+◌, ◌<◌, ◌⊎◌, List, [], ◌∷◌, ◌++◌, length}
+use Rattle.std.specs.Prelude.{◌≡◌, ℕ, ◌+◌, ◌<◌, ◌⊎◌, List, [], ◌∷◌, ◌++◌, length, Option, Some}
 use Rattle.wt_env.specs.Among.{Among}
 use Rattle.wt_env.specs.declared.types.VMSharedTypeIndex.{VMSharedTypeIndex}
 use Rattle.wt_env.specs.declared.types.WasmSubType.{WasmSubType}
-use Rattle.wt_tree.specs.MapRefs.{map_group_refs}
+use Rattle.wt_tree.specs.Trampoline.{other_trampoline}
 use Rattle.wt_model.specs.Registered.{RegisteredGroup}
 use Rattle.wt_model.specs.Indices.{used}
-use Rattle.wt_model.specs.Plan.{Plan}
+use Rattle.wt_model.specs.Trampolines.{IsTrampoline, TellsTrampoline, TellTrampolines}
+use Rattle.wt_model.specs.Plan.{Plan, plan_trampolines}
 use Rattle.wt_keys.specs.declared.entry.RecGroupEntry.{RecGroupEntry}
 use Rattle.wt_keys.specs.Entries.{made_by}
-use Rattle.wt_keys.specs.Keys.{Names, IsNewKey, own_shown}
+use Rattle.wt_keys.specs.Keys.{ResolvesTo, AreKeys, AreShown, IsNewKey}
 use Rattle.wt_plan.specs.declared.plan.Plan.{Plan as PlanFields}
 
 -- each reference that leaves these types is the index of a registered type
-abbrev pub AreNamed : List RegisteredGroup → List WasmSubType → Type 0
-AreNamed made types = (outer : List (ℕ × ℕ)) × Names made types outer
+abbrev pub AreResolved : List RegisteredGroup → List WasmSubType → Type 0
+AreResolved made types = (outer : List (ℕ × ℕ)) × ResolvesTo made types outer
 
 -- the plan over what is registered
 abbrev pub plan_of : List RecGroupEntry → PlanFields → Plan
@@ -32,12 +33,57 @@ AreNewBelow entries added =
     (entry : RecGroupEntry) (i : VMSharedTypeIndex) → Among entry added → Among i entry.shared_type_indices
     → i.0 < length (used (made_by (entries ++ added)))
 
--- One more group was planned: an entry that has these types as its key, which was there, or which is new.
+-- entries that are added in turn, each new to those before it
+abbrev pub AreNewKeys : List RecGroupEntry → ℕ → List RecGroupEntry → Type 0
+AreNewKeys entries top [] = Unit {0}
+AreNewKeys entries top (entry ∷ more) = IsNewKey entries top entry × AreNewKeys (entries ++ entry ∷ []) (top + 1) more
+
+-- More entries were planned, and no occurrence.
+pub record PlansMore (entries : List RecGroupEntry) (before after : PlanFields) (more : List RecGroupEntry) : Type 0 where
+  pub added : after.added.items ≡ before.added.items ++ more
+  pub new : AreNewKeys (entries ++ before.added.items) before.given.numbers more
+  pub given : after.given.numbers ≡ before.given.numbers + length more
+  pub shown : AreShown more
+
+-- The group of this trampoline alone was planned, which has this number; what is new has it.
+pub record PlansAlone (entries : List RecGroupEntry) (before after : PlanFields) (member : WasmSubType) (number : ℕ) : Type 0 where
+  pub more : List RecGroupEntry
+  pub plans : PlansMore entries before after more
+  pub is : IsTrampoline (made_by (entries ++ after.added.items)) member number
+  pub led : (e : RecGroupEntry) → Among e more → (e.number ≡ number) × (e.hash_consing_key.types ≡ member ∷ [])
+  pub numbers : after.numbers.items ≡ before.numbers.items
+  pub map : after.map.items ≡ before.map.items
+
+-- The trampoline of a member was planned, where it isn't the member itself, and its group's number is told; what is
+-- new has that number.
+pub record PlansTold (entries : List RecGroupEntry) (before after : PlanFields) (member : Option WasmSubType) (told : Option ℕ) : Type 0 where
+  pub more : List RecGroupEntry
+  pub plans : PlansMore entries before after more
+  pub tells : TellsTrampoline (made_by (entries ++ after.added.items)) member told
+  pub led : (e : RecGroupEntry) → Among e more → (told ≡ Some e.number) × (m : WasmSubType) × (member ≡ Some m) × (e.hash_consing_key.types ≡ m ∷ [])
+  pub numbers : after.numbers.items ≡ before.numbers.items
+  pub map : after.map.items ≡ before.map.items
+
+-- The trampolines of members were planned, and they are told; each that is new is told, and is that of a member.
+pub record PlansTrampolines (entries : List RecGroupEntry) (before after : PlanFields) (members : List WasmSubType) (told : List (Option ℕ)) : Type 0 where
+  pub planned : plan_trampolines (plan_of entries before) members ≡ plan_of entries after
+  pub keys : AreKeys (entries ++ after.added.items) after.given.numbers
+  pub more : List RecGroupEntry
+  pub plans : PlansMore entries before after more
+  pub tell : TellTrampolines (made_by (entries ++ after.added.items)) members told
+  pub led : (e : RecGroupEntry) → Among e more → Among (Some e.number) told
+      × (ty : WasmSubType) × (m : WasmSubType) × Among ty members × (other_trampoline ty ≡ Some m) × (e.hash_consing_key.types ≡ m ∷ [])
+  pub numbers : after.numbers.items ≡ before.numbers.items
+  pub map : after.map.items ≡ before.map.items
+
+-- One more group was planned: an entry that has these types as its key. It was there, or it is new, behind others
+-- that are new, to which it leads.
 pub record PlansOne (entries : List RecGroupEntry) (before after : PlanFields) (types : List WasmSubType) : Type 0 where
   pub entry : RecGroupEntry
   pub group : entry.hash_consing_key.types ≡ types
   pub numbers : after.numbers.items ≡ before.numbers.items ++ entry.number ∷ []
   pub map : after.map.items ≡ before.map.items ++ entry.shared_type_indices
-  pub stands : ((after.added.items ≡ before.added.items) × Among entry (entries ++ before.added.items) × (after.given.numbers ≡ before.given.numbers))
-      ⊎ ((after.added.items ≡ before.added.items ++ entry ∷ []) × IsNewKey (entries ++ before.added.items) before.given.numbers entry × (after.given.numbers ≡ before.given.numbers + 1)
-      × (entry.runtime_types ≡ map_group_refs (own_shown entry.shared_type_indices) entry.hash_consing_key.types))
+  pub stands : Among entry (entries ++ after.added.items)
+  pub more : List RecGroupEntry
+  pub plans : PlansMore entries before after more
+  pub led : (e : RecGroupEntry) → Among e more → (e.number ≡ entry.number) ⊎ Among (Some e.number) entry.trampolines

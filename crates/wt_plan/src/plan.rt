@@ -1,7 +1,7 @@
 //! Plans of registrations: which groups are new, with their numbers and indices, before anything is changed.
 //! What stands and what was planned before are searched as one list.
 
-ghost use Rattle.std.specs.Prelude.{◌≡◌, ◌+◌, List, ◌++◌, ◌∷◌, [], length, map, false, Some, None, IfOk, OnOk, ◌==◌};
+ghost use Rattle.std.specs.Prelude.{◌≡◌, ◌+◌, List, ◌++◌, ◌∷◌, [], length, map, false, Some, None, IfOk, OnOk, ◌==◌, true, count_by, is_some};
 ghost use Rattle.std.specs.List.{find, list_any};
 ghost use Rattle.std.specs.Option.{option_copied};
 ghost use Rattle.wt_env.specs.Equality.{rec_group_eq};
@@ -9,10 +9,14 @@ ghost use Rattle.wt_tree.specs.Canonical.{canonical_index};
 ghost use Rattle.wt_tree.specs.MapRefs.{map_group_refs as group_over};
 ghost use Rattle.wt_model.specs.Indices.{used, is_used as is_used_number, assign_shared_type_indices as free_indices_of, locate, closed_tree};
 ghost use Rattle.wt_model.specs.Describe.{describe};
+ghost use Rattle.wt_model.specs.Reach.{edges};
+ghost use Rattle.wt_model.specs.Trampolines.{trampoline_numbers, TellTrampolines};
+ghost use Rattle.wt_tree.specs.References.{number_group};
+ghost use Rattle.wt_tree.specs.Trampoline.{is_own_trampoline as own_test, other_trampoline as other_of};
 ghost use Rattle.wt_keys.specs.Entries.{made_of, made_by};
-ghost use Rattle.wt_keys.specs.Keys.{Names, named_at, KeyNamesTypes, AreKeys, IsNewKey, own_shown};
-ghost use Rattle.wt_model.specs.Plan.{Occurs, plan_key as plan_key_of, plan_group as plan_group_of, plan_groups as plan_groups_of};
-ghost use Rattle.wt_plan.specs.Planned.{plan_of, AreNamed, AreNewBelow, PlansOne};
+ghost use Rattle.wt_keys.specs.Keys.{ResolvesTo, named_at, KeyNamesTypes, AreKeys, IsNewKey, own_shown};
+ghost use Rattle.wt_model.specs.Plan.{Occurs, with_new, plan_trampoline as plan_trampoline_of, plan_trampolines as plan_trampolines_of, plan_key as plan_key_of, plan_group as plan_group_of, plan_groups as plan_groups_of};
+ghost use Rattle.wt_plan.specs.Planned.{plan_of, AreResolved, AreNewBelow, PlansAlone, PlansTold, PlansTrampolines, PlansOne};
 ghost use Rattle.wt_keys.specs.Keys.{AreShown};
 ghost use Rattle.wt_rules.specs.Rules.{AreModuleTypes, first_broken};
 ghost use Rattle.wt_tree.specs.ModuleTree.{module_trees};
@@ -26,6 +30,7 @@ use wt_keys::search::{find_group, is_used, place_of};
 use wt_model::ever::EverRegistered;
 use wt_tree::map_refs::{IndexChange, canonical_group, map_group_refs};
 use wt_tree::refs::leaving_refs;
+use wt_tree::trampoline::other_trampoline;
 
 /// What a registration of groups comes to, before any limit is tested.
 #[derive(Debug, Drop)]
@@ -156,8 +161,8 @@ fn outer_of(
     added: &[RecGroupEntry],
     types: &[WasmSubType],
 ) -> Result<Seq<(u64, u32)>, OutOfMemory>
-    requires { AreNamed (made_by (entries.now ++ added.now)) types.now }
-    ensures { IfOk result (λ outer. Names (made_by (entries.now ++ added.now)) types.now outer) }
+    requires { AreResolved (made_by (entries.now ++ added.now)) types.now }
+    ensures { IfOk result (λ outer. ResolvesTo (made_by (entries.now ++ added.now)) types.now outer) }
 {
     let refs = leaving_refs(alloc, types)?;
     let mut outer = Seq::new(alloc);
@@ -200,25 +205,30 @@ fn shown_members(
     map_group_refs(alloc, &OwnShown { indices }, types)
 }
 
-/// The entry of a group whose key no entry has, with the next number and the smallest free indices.
+/// The entry of a group whose key no entry has, with the next number and the smallest free indices, where this is
+/// told of the trampolines of its members.
 fn new_entry(
     alloc: Global,
     entries: &[RecGroupEntry],
     added: &[RecGroupEntry],
     numbers: u64,
     key: WasmRecGroup,
+    trampolines: Seq<Option<u64>>,
 ) -> Result<RecGroupEntry, OutOfMemory>
     requires keys { AreKeys (entries.now ++ added.now) numbers }
-    requires named { AreNamed (made_by (entries.now ++ added.now)) key.types }
+    requires named { AreResolved (made_by (entries.now ++ added.now)) key.types }
     requires kinds { KeyNamesTypes (made_by (entries.now ++ added.now)) key.types }
     requires new { find (λ entry. rec_group_eq entry.hash_consing_key key) (entries.now ++ added.now) ≡ None }
+    requires tell { TellTrampolines (made_by (entries.now ++ added.now)) key.types trampolines }
     ensures key { IfOk result (λ entry. IsNewKey (entries.now ++ added.now) numbers entry) }
     ensures made { IfOk result (λ entry. made_of entry ≡ record {
       number = numbers + 1;
       description = describe (made_by (entries.now ++ added.now)) key.types;
+      trampolines = trampoline_numbers (made_by (entries.now ++ added.now)) (number_group key.types);
       indices = free_indices_of (length key.types) (used (made_by (entries.now ++ added.now)));
     }) }
     ensures group { IfOk result (λ entry. entry.hash_consing_key ≡ key) }
+    ensures trampolines { IfOk result (λ entry. entry.trampolines ≡ trampolines) }
     ensures shown { IfOk result (λ entry. entry.runtime_types ≡ group_over (own_shown entry.shared_type_indices) entry.hash_consing_key.types) }
 {
     let number = numbers.checked_add(1).ok_or(OutOfMemory)?;
@@ -230,26 +240,121 @@ fn new_entry(
         hash_consing_key: key,
         runtime_types: shown,
         outer,
+        trampolines,
         shared_type_indices: indices,
     })
+}
+
+/// How many trampolines are told.
+fn told_count(trampolines: &[Option<u64>]) -> usize
+    ensures { result ≡ count_by (λ told. is_some told) trampolines.now }
+{
+    trampolines.iter().filter(|told| told.is_some()).count()
+}
+
+/// How many edges the group has, each occurrence counted.
+pub fn edge_count(entry: &RecGroupEntry) -> Result<u64, OutOfMemory>
+    ensures { IfOk result (λ count. count ≡ length (edges (made_of entry.now))) }
+{
+    let references = entry.outer.len() as u64;
+    let trampolines = told_count(entry.trampolines.as_slice()) as u64;
+    let count = references.checked_add(trampolines).ok_or(OutOfMemory)?;
+    Ok(count)
 }
 
 /// One more group that was ever registered, with so many types and references.
 fn one_more(
     given: EverRegistered,
     types: usize,
-    references: usize,
+    references: u64,
 ) -> Result<EverRegistered, OutOfMemory>
     ensures { IfOk result (λ more. more ≡ record { numbers = given.numbers + 1; types = given.types + types; references = given.references + references }) }
 {
     Ok(EverRegistered {
         numbers: given.numbers.checked_add(1).ok_or(OutOfMemory)?,
         types: given.types.checked_add(types as u64).ok_or(OutOfMemory)?,
-        references: given
-            .references
-            .checked_add(references as u64)
-            .ok_or(OutOfMemory)?,
+        references: given.references.checked_add(references).ok_or(OutOfMemory)?,
     })
+}
+
+/// One more group that is new, and no occurrence of it.
+fn add_entry(plan: &mut Plan, entry: RecGroupEntry) -> Result<(), OutOfMemory>
+    ensures added { OnOk result (plan.new.added.items ≡ plan.old.added.items ++ entry ∷ []) }
+    ensures given { OnOk result (plan.new.given ≡ record {
+      numbers = plan.old.given.numbers + 1;
+      types = plan.old.given.types + length entry.shared_type_indices;
+      references = plan.old.given.references + length (edges (made_of entry));
+    }) }
+    ensures numbers { OnOk result (plan.new.numbers.items ≡ plan.old.numbers.items) }
+    ensures map { OnOk result (plan.new.map.items ≡ plan.old.map.items) }
+{
+    let edges = edge_count(&entry)?;
+    plan.given = one_more(plan.given, entry.shared_type_indices.len(), edges)?;
+    plan.added.push(entry)?;
+    Ok(())
+}
+
+/// Plans the group of this trampoline alone, which may be there already. Answers its registration number.
+fn plan_alone(
+    alloc: Global,
+    entries: &[RecGroupEntry],
+    plan: &mut Plan,
+    member: WasmSubType,
+) -> Result<u64, OutOfMemory>
+    requires own { own_test member ≡ true }
+    requires keys { AreKeys (entries.now ++ plan.old.added.items) plan.old.given.numbers }
+    ensures ok { OnOk result (plan_trampoline_of (plan_of entries.now plan.old) (Some member) ≡ plan_of entries.now plan.new) }
+    ensures keys { OnOk result (AreKeys (entries.now ++ plan.new.added.items) plan.new.given.numbers) }
+    ensures alone { IfOk result (λ number. PlansAlone entries.now plan.old plan.new member number) }
+{
+    let key = WasmRecGroup {
+        types: Seq::one(alloc, member)?,
+    };
+    if let Some(alone) = find_planned(entries, plan.added.as_slice(), &key) {
+        return Ok(alone.number);
+    }
+    let told = Seq::one(alloc, None)?;
+    let added = plan.added.as_slice();
+    let entry = new_entry(alloc, entries, added, plan.given.numbers, key, told)?;
+    let number = entry.number;
+    add_entry(plan, entry)?;
+    Ok(number)
+}
+
+/// Plans the trampoline of a member, where it isn't the member itself. Answers the registration number of its
+/// group.
+fn plan_trampoline(
+    alloc: Global,
+    entries: &[RecGroupEntry],
+    plan: &mut Plan,
+    ty: &WasmSubType,
+) -> Result<Option<u64>, OutOfMemory>
+    requires { AreKeys (entries.now ++ plan.old.added.items) plan.old.given.numbers }
+    ensures ok { OnOk result (plan_trampoline_of (plan_of entries.now plan.old) (other_of ty.now) ≡ plan_of entries.now plan.new) }
+    ensures keys { OnOk result (AreKeys (entries.now ++ plan.new.added.items) plan.new.given.numbers) }
+    ensures told { IfOk result (λ told. PlansTold entries.now plan.old plan.new (other_of ty.now) told) }
+{
+    match other_trampoline(alloc, ty)? {
+        Some(member) => Ok(Some(plan_alone(alloc, entries, plan, member)?)),
+        None => Ok(None),
+    }
+}
+
+/// Plans the trampolines of members, in order. Answers what is told of them.
+fn plan_trampolines(
+    alloc: Global,
+    entries: &[RecGroupEntry],
+    plan: &mut Plan,
+    types: &[WasmSubType],
+) -> Result<Seq<Option<u64>>, OutOfMemory>
+    requires { AreKeys (entries.now ++ plan.old.added.items) plan.old.given.numbers }
+    ensures { IfOk result (λ told. PlansTrampolines entries.now plan.old plan.new types.now told) }
+{
+    let mut told = Seq::new(alloc);
+    for ty in types {
+        told.push(plan_trampoline(alloc, entries, plan, ty)?)?;
+    }
+    Ok(told)
 }
 
 /// One more occurrence of a group.
@@ -266,6 +371,29 @@ fn add_occurrence(
     Ok(())
 }
 
+/// Plans one more group that is new, behind the trampolines of its members.
+fn plan_new(
+    alloc: Global,
+    entries: &[RecGroupEntry],
+    plan: &mut Plan,
+    key: WasmRecGroup,
+) -> Result<(), OutOfMemory>
+    requires keys { AreKeys (entries.now ++ plan.old.added.items) plan.old.given.numbers }
+    requires named { AreResolved (made_by (entries.now ++ plan.old.added.items)) key.types }
+    requires kinds { KeyNamesTypes (made_by (entries.now ++ plan.old.added.items)) key.types }
+    requires new { find (λ entry. rec_group_eq entry.hash_consing_key key) (entries.now ++ plan.old.added.items) ≡ None }
+    ensures ok { OnOk result (with_new (plan_trampolines_of (plan_of entries.now plan.old) key.types) key.types ≡ plan_of entries.now plan.new) }
+    ensures keys { OnOk result (AreKeys (entries.now ++ plan.new.added.items) plan.new.given.numbers) }
+    ensures one { OnOk result (PlansOne entries.now plan.old plan.new key.types) }
+{
+    let told = plan_trampolines(alloc, entries, plan, key.types.as_slice())?;
+    let added = plan.added.as_slice();
+    let entry = new_entry(alloc, entries, added, plan.given.numbers, key, told)?;
+    add_occurrence(&mut plan.numbers, &mut plan.map, &entry)?;
+    add_entry(plan, entry)?;
+    Ok(())
+}
+
 /// Plans one more group, whose references that leave it are indices of what stands or was planned, and name types of
 /// the kinds that they say.
 pub fn plan_key(
@@ -275,7 +403,7 @@ pub fn plan_key(
     key: WasmRecGroup,
 ) -> Result<(), OutOfMemory>
     requires keys { AreKeys (entries.now ++ plan.old.added.items) plan.old.given.numbers }
-    requires named { AreNamed (made_by (entries.now ++ plan.old.added.items)) key.types }
+    requires named { AreResolved (made_by (entries.now ++ plan.old.added.items)) key.types }
     requires kinds { KeyNamesTypes (made_by (entries.now ++ plan.old.added.items)) key.types }
     ensures ok { OnOk result (plan_key_of (plan_of entries.now plan.old) key.types ≡ plan_of entries.now plan.new) }
     ensures keys { OnOk result (AreKeys (entries.now ++ plan.new.added.items) plan.new.given.numbers) }
@@ -284,21 +412,7 @@ pub fn plan_key(
     if let Some(entry) = find_planned(entries, plan.added.as_slice(), &key) {
         return add_occurrence(&mut plan.numbers, &mut plan.map, entry);
     }
-    let entry = new_entry(
-        alloc,
-        entries,
-        plan.added.as_slice(),
-        plan.given.numbers,
-        key,
-    )?;
-    plan.given = one_more(
-        plan.given,
-        entry.shared_type_indices.len(),
-        entry.outer.len(),
-    )?;
-    add_occurrence(&mut plan.numbers, &mut plan.map, &entry)?;
-    plan.added.push(entry)?;
-    Ok(())
+    plan_new(alloc, entries, plan, key)
 }
 
 /// A count of types as a number of 32 bits.
@@ -319,7 +433,7 @@ fn plan_group(
     group: &WasmRecGroup,
 ) -> Result<(), OutOfMemory>
     requires keys { AreKeys (entries.now ++ plan.old.added.items) plan.old.given.numbers }
-    requires named { AreNamed (made_by (entries.now ++ plan.old.added.items)) (group_over (canonical_index (length plan.old.map.items) plan.old.map.items) group.now.types) }
+    requires named { AreResolved (made_by (entries.now ++ plan.old.added.items)) (group_over (canonical_index (length plan.old.map.items) plan.old.map.items) group.now.types) }
     requires kinds { KeyNamesTypes (made_by (entries.now ++ plan.old.added.items)) (group_over (canonical_index (length plan.old.map.items) plan.old.map.items) group.now.types) }
     ensures ok { OnOk result (plan_group_of (plan_of entries.now plan.old) group.now ≡ plan_of entries.now plan.new) }
     ensures keys { OnOk result (AreKeys (entries.now ++ plan.new.added.items) plan.new.given.numbers) }

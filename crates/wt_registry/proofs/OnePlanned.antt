@@ -6,11 +6,10 @@ use Rattle.wt_env.specs.Among.{Among}
 use Rattle.wt_env.specs.Limits.{EngineParts}
 use Rattle.wt_env.specs.declared.types.VMSharedTypeIndex.{VMSharedTypeIndex}
 use Rattle.wt_env.specs.declared.types.WasmSubType.{WasmSubType}
-use Rattle.wt_env.proofs.lists.Mapped.{among_mapped, among_last}
+use Rattle.wt_env.proofs.lists.Mapped.{among_mapped}
 use Rattle.wt_env.proofs.lists.Members.{some_same}
 use Rattle.wt_tree.specs.NumberFunction.{is_number_function}
 use Rattle.wt_tree.specs.Tree.{ClosedTree}
-use Rattle.wt_tree.specs.MapRefs.{map_group_refs}
 use Rattle.wt_tree.specs.References.{group_refs}
 use Rattle.wt_tree.proofs.Plain.{group_refs-plain}
 use Rattle.wt_rules.proofs.Functions.{function-plain}
@@ -26,12 +25,13 @@ use Rattle.wt_model.specs.Registration.{host_type, trees_of, registration_plan, 
 use Rattle.wt_model.proofs.plan.Refusals.{host-refusal}
 use Rattle.wt_keys.specs.declared.entry.RecGroupEntry.{RecGroupEntry}
 use Rattle.wt_keys.specs.Entries.{made_of, made_by}
-use Rattle.wt_keys.specs.Keys.{AreKeys, IsNewKey, named_at, own_shown}
-use Rattle.wt_keys.proofs.AddedKeys.{closed_tree-registered, closed_tree-new}
+use Rattle.wt_keys.specs.Keys.{AreKeys, AreShown, named_at}
+use Rattle.wt_keys.proofs.AddedKeys.{closed_tree-registered}
 use Rattle.wt_keys.proofs.KeyTrees.{tree-of_key}
 use Rattle.wt_plan.specs.declared.plan.Plan.{Plan as PlanFields}
-use Rattle.wt_plan.specs.Planned.{AreNamed, AreNewBelow, plan_of, PlansOne}
-use Rattle.wt_plan.proofs.NewIndices.{new_below-none, new_below-pushed}
+use Rattle.wt_plan.specs.Planned.{AreResolved, AreNewBelow, AreNewKeys, plan_of, PlansOne}
+use Rattle.wt_plan.proofs.NewIndices.{new_below-none}
+use Rattle.wt_plan.proofs.GrownKeys.{new_below-all, tree_of-grown}
 use Rattle.wt_plan.proofs.Planning.{groups_of-joined}
 use Rattle.wt_plan.proofs.PlannedGroups.{EntriesOccur, occurs-groups}
 use Rattle.wt_holds.specs.declared.inner.TypeRegistryInner.{TypeRegistryInner}
@@ -45,7 +45,7 @@ plan_of-empty registry entries plan made given added numbers indices =
     λ i. record { registered = made i; added = made_by (added i); given = given i; numbers = numbers i; map = indices i }
 
 -- a function over numbers refers to nothing
-pub plain-named : (made : List RegisteredGroup) (types : List WasmSubType) (ty : WasmSubType) → is_number_function ty ≡ true → types ≡ ty ∷ [] → AreNamed made types
+pub plain-named : (made : List RegisteredGroup) (types : List WasmSubType) (ty : WasmSubType) → is_number_function ty ≡ true → types ≡ ty ∷ [] → AreResolved made types
 plain-named made types ty plain is = ([], ap (map (named_at made)) (ap group_refs is ∙ group_refs-plain ty plain))
 
 -- ---- a plan of one key
@@ -55,8 +55,10 @@ pub record OnePlanned (entries : List RecGroupEntry) (top : ℕ) (after : PlanFi
   pub group : entry.hash_consing_key.types ≡ types
   pub numbers : after.numbers.items ≡ entry.number ∷ []
   pub map : after.map.items ≡ entry.shared_type_indices
-  pub stands : ((after.added.items ≡ []) × Among entry entries)
-      ⊎ ((after.added.items ≡ entry ∷ []) × IsNewKey entries top entry × (entry.runtime_types ≡ map_group_refs (own_shown entry.shared_type_indices) entry.hash_consing_key.types))
+  pub stands : Among entry (entries ++ after.added.items)
+  pub new : AreNewKeys entries top after.added.items
+  pub shown : AreShown after.added.items
+  pub led : (e : RecGroupEntry) → Among e after.added.items → (e.number ≡ entry.number) ⊎ Among (Some e.number) entry.trampolines
 
 pub one-planned : (entries : List RecGroupEntry) (top : ℕ) (before after : PlanFields) (types : List WasmSubType) → PlansOne entries before after types
     → before.added.items ≡ [] → before.numbers.items ≡ [] → before.map.items ≡ [] → before.given.numbers ≡ top → OnePlanned entries top after types
@@ -65,52 +67,25 @@ one-planned entries top before after types one added numbers indices given = rec
   group = one.group;
   numbers = one.numbers ∙ ap (λ (ns : List ℕ). ns ++ one.entry.number ∷ []) numbers;
   map = one.map ∙ ap (λ (is : List VMSharedTypeIndex). is ++ one.entry.shared_type_indices) indices;
-  stands = by one.stands;
+  stands = one.stands;
+  new =
+      subst (AreNewKeys entries top) (sym same)
+      (subst (λ n. AreNewKeys entries n one.more) given (subst (λ es. AreNewKeys es before.given.numbers one.more) all one.plans.new));
+  shown = subst AreShown (sym same) one.plans.shown;
+  led = λ e at. one.led e (subst (Among e) same at);
 }
   where
     all : entries ++ before.added.items ≡ entries
     all = ap (λ (more : List RecGroupEntry). entries ++ more) added ∙ append-nil entries
 
-    by : ((after.added.items ≡ before.added.items) × Among one.entry (entries ++ before.added.items) × (after.given.numbers ≡ before.given.numbers))
-        ⊎ ((after.added.items ≡ before.added.items ++ one.entry ∷ []) × IsNewKey (entries ++ before.added.items) before.given.numbers one.entry × (after.given.numbers ≡ before.given.numbers + 1)
-        × (one.entry.runtime_types ≡ map_group_refs (own_shown one.entry.shared_type_indices) one.entry.hash_consing_key.types))
-        → ((after.added.items ≡ []) × Among one.entry entries)
-        ⊎ ((after.added.items ≡ one.entry ∷ []) × IsNewKey entries top one.entry × (one.entry.runtime_types ≡ map_group_refs (own_shown one.entry.shared_type_indices) one.entry.hash_consing_key.types))
-    by (inl s) = inl (s.0 ∙ added, subst (Among one.entry) all s.1)
-    by (inr s) = inr (
-      s.0 ∙ ap (λ (more : List RecGroupEntry). more ++ one.entry ∷ []) added,
-      subst (λ n. IsNewKey entries n one.entry) given (subst (λ es. IsNewKey es before.given.numbers one.entry) all s.1),
-      s.3,
-    )
+    same : after.added.items ≡ one.more
+    same = one.plans.added ∙ ap (λ (more : List RecGroupEntry). more ++ one.more) added
 
 module _ (entries : List RecGroupEntry) (top : ℕ) (after : PlanFields) (types : List WasmSubType) (one : OnePlanned entries top after types) where
-  -- the entry stands then
-  entry-among : Among one.entry (entries ++ after.added.items)
-  entry-among = by one.stands
-    where
-      by : ((after.added.items ≡ []) × Among one.entry entries)
-          ⊎ ((after.added.items ≡ one.entry ∷ []) × IsNewKey entries top one.entry × (one.entry.runtime_types ≡ map_group_refs (own_shown one.entry.shared_type_indices) one.entry.hash_consing_key.types))
-          → Among one.entry (entries ++ after.added.items)
-      by (inl s) = subst (λ more. Among one.entry (entries ++ more)) (sym s.0) (subst (Among one.entry) (sym (append-nil entries)) s.1)
-      by (inr s) = subst (λ more. Among one.entry (entries ++ more)) (sym s.0) (among_last entries one.entry)
-
-  added-entry : (entry : RecGroupEntry) → Among entry after.added.items → entry ≡ one.entry
-  added-entry entry at = by one.stands
-    where
-      only : Among entry (one.entry ∷ []) → entry ≡ one.entry
-      only (inl same) = same
-      only (inr none) = absurd none
-
-      by : ((after.added.items ≡ []) × Among one.entry entries)
-          ⊎ ((after.added.items ≡ one.entry ∷ []) × IsNewKey entries top one.entry × (one.entry.runtime_types ≡ map_group_refs (own_shown one.entry.shared_type_indices) one.entry.hash_consing_key.types))
-          → entry ≡ one.entry
-      by (inl s) = absurd (subst (Among entry) s.0 at)
-      by (inr s) = only (subst (Among entry) s.0 at)
-
   one-entries : EntriesOccur (entries ++ after.added.items) after.added.items after.numbers.items
   one-entries = record {
-    every = λ entry at. subst (Among entry.number) (sym one.numbers) (inl (ap (λ (e : RecGroupEntry). e.number) (added-entry entry at)));
-    only = λ number at. (one.entry, entry-among, sym (only_number number (subst (Among number) one.numbers at)));
+    every = λ entry at. (one.entry, one.stands, subst (Among one.entry.number) (sym one.numbers) (inl refl), one.led entry at);
+    only = λ number at. (one.entry, one.stands, sym (only_number number (subst (Among number) one.numbers at)));
   }
     where
       only_number : (number : ℕ) → Among number (one.entry.number ∷ []) → number ≡ one.entry.number
@@ -121,14 +96,9 @@ module _ (entries : List RecGroupEntry) (top : ℕ) (after : PlanFields) (types 
   one-occurs = occurs-groups entries after one-entries
 
   pub one-below : AreNewBelow entries after.added.items
-  one-below = by one.stands
-    where
-      by : ((after.added.items ≡ []) × Among one.entry entries)
-          ⊎ ((after.added.items ≡ one.entry ∷ []) × IsNewKey entries top one.entry × (one.entry.runtime_types ≡ map_group_refs (own_shown one.entry.shared_type_indices) one.entry.hash_consing_key.types))
-          → AreNewBelow entries after.added.items
-      by (inl s) = subst (AreNewBelow entries) (sym s.0) (new_below-none entries)
-      by (inr s) = subst (AreNewBelow entries) (sym s.0)
-          (new_below-pushed entries [] top one.entry (new_below-none entries) (subst (λ es. IsNewKey es top one.entry) (sym (append-nil entries)) s.1))
+  one-below =
+      new_below-all entries [] top after.added.items (new_below-none entries)
+      (subst (λ es. AreNewKeys es top after.added.items) (sym (append-nil entries)) one.new)
 
   -- the first index is that of the entry's first type
   module _ (keys : AreKeys entries top) (given : ℕ) (all : AreKeys (entries ++ after.added.items) given) (index : VMSharedTypeIndex) (first : slice_get after.map.items 0 ≡ Some index) where
@@ -139,24 +109,16 @@ module _ (entries : List RecGroupEntry) (top : ℕ) (after : PlanFields) (types 
     pub one-located : number_of (made_by (entries ++ after.added.items)) index ≡ Some one.entry.number
     one-located =
         ap (option_map (λ (at : ℕ × ℕ). at.0))
-        (all.located (made_of one.entry) 0 index (among_mapped made_of (entries ++ after.added.items) one.entry entry-among) first-index)
+        (all.located (made_of one.entry) 0 index (among_mapped made_of (entries ++ after.added.items) one.entry one.stands) first-index)
 
     -- and has the closed tree of the key
-    pub one-named : closed_tree (made_by (entries ++ after.added.items)) index ≡ Some (record { tree = tree_of (made_by entries) types; place = 0 })
-    one-named = by one.stands
-      where
-        by : ((after.added.items ≡ []) × Among one.entry entries)
-            ⊎ ((after.added.items ≡ one.entry ∷ []) × IsNewKey entries top one.entry × (one.entry.runtime_types ≡ map_group_refs (own_shown one.entry.shared_type_indices) one.entry.hash_consing_key.types))
-            → closed_tree (made_by (entries ++ after.added.items)) index ≡ Some (record { tree = tree_of (made_by entries) types; place = 0 })
-        by (inl s) =
-            ap (λ (more : List RecGroupEntry). closed_tree (made_by (entries ++ more)) index) s.0
-            ∙ ap (λ (es : List RecGroupEntry). closed_tree (made_by es) index) (append-nil entries)
-            ∙ closed_tree-registered entries top one.entry 0 index keys s.1 first-index
-            ∙ ap (λ tree. Some (record { tree = tree; place = 0 })) (tree-of_key entries top one.entry keys s.1 ∙ ap (tree_of (made_by entries)) one.group)
-        by (inr s) =
-            ap (λ (more : List RecGroupEntry). closed_tree (made_by (entries ++ more)) index) s.0
-            ∙ closed_tree-new entries top one.entry 0 index keys s.1 first-index
-            ∙ ap (λ ts. Some (record { tree = tree_of (made_by entries) ts; place = 0 })) one.group
+    pub one-named : AreResolved (made_by entries) types → closed_tree (made_by (entries ++ after.added.items)) index ≡ Some (record { tree = tree_of (made_by entries) types; place = 0 })
+    one-named named =
+        closed_tree-registered (entries ++ after.added.items) given one.entry 0 index all one.stands first-index
+        ∙ ap (λ tree. Some (record { tree = tree; place = 0 }))
+        (tree-of_key (entries ++ after.added.items) given one.entry all one.stands
+        ∙ ap (tree_of (made_by (entries ++ after.added.items))) one.group
+        ∙ tree_of-grown entries top after.added.items keys one.new types named.0 named.1)
 
 -- ---- a registration, by the fields
 
@@ -201,7 +163,7 @@ module _ (engine : EngineParts) (groups : TypeRegistryInner) (after : PlanFields
   pub first-place : (indices : List VMSharedTypeIndex) (index : VMSharedTypeIndex) → indices ≡ after.map.items → index ≡ get_or indices 0 index → slice_get after.map.items 0 ≡ Some index
   first-place indices index same read =
       let entry = is.one.entry in
-      let members = (is.keys.keys entry (entry-among groups.entries.items groups.given.numbers after (ty ∷ []) is.one)).members in
+      let members = (is.keys.keys entry is.one.stands).members in
       let one = ap (λ (ts : List WasmSubType). length ts) is.one.group in
       let long = ap (λ (is : List VMSharedTypeIndex). length is) is.one.map in
       first-read indices after.map.items index same (omega (arith, members, one, long)) read
@@ -237,6 +199,7 @@ module _ (engine : EngineParts) (groups : TypeRegistryInner) (after : PlanFields
         ap (λ (found : Option ClosedTree). found ∷ [])
         (ap (λ (made : List RegisteredGroup). closed_tree made index) (sym made-new ∙ groups_of-joined groups.entries.items after)
         ∙ one-named groups.entries.items groups.given.numbers after (ty ∷ []) is.one kept.keys after.given.numbers is.keys index first_index
+        (plain-named (made_by groups.entries.items) (ty ∷ []) ty plain refl)
         ∙ ap (λ (r : Registry). Some (record { tree = tree_of r.made (ty ∷ []); place = 0 })) view)
 
     pub is_at : number_of (made_by new.entries.items) index ≡ Some number

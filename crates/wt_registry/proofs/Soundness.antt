@@ -3,6 +3,7 @@ use Rattle.wt_env.specs.Limits.{EngineParts}
 use Rattle.wt_model.specs.Sound.{IsSound}
 use Rattle.wt_model.proofs.removal.Consistent.{consistent-sound}
 use Rattle.wt_keys.proofs.AddedKeys.{one_index, names_older, indexed, name_types}
+use Rattle.wt_keys.proofs.KeyTrampolines.{have_trampolines}
 use Rattle.wt_holds.specs.declared.inner.TypeRegistryInner.{TypeRegistryInner}
 use Rattle.wt_holds.specs.Kept.{AreKept, registry_at}
 
@@ -17,5 +18,6 @@ sound engine groups kept =
       indexed = indexed groups.entries.items groups.given.numbers kept.keys;
       below = kept.below;
       name_types = name_types groups.entries.items groups.given.numbers kept.keys;
+      trampolines = have_trampolines groups.entries.items groups.given.numbers kept.keys;
       holds = kept.holds;
     })

@@ -1,6 +1,6 @@
 -- How many types and references entries have, and how often a number occurs: of two lists, and of one more at the end.
 use Rattle.std.proofs.Common.{◌≡◌, ◌≢◌, ℕ, ◌+◌, ◌<◌, ◌==◌, Bool, true, false, cond, List, [], ◌∷◌, ◌++◌, length, map, take, get_or, sym, ap, ◌∙◌, arith, eq-eqb}
-use Rattle.std.proofs.lemmas.List.{take_more, map-append, length-append, length-map}
+use Rattle.std.proofs.lemmas.List.{take_more, map-append, length-append}
 use Rattle.std.proofs.lemmas.List.Concat.{flat_map-append}
 use Rattle.wt_keys.specs.declared.entry.RecGroupEntry.{RecGroupEntry}
 use Rattle.wt_model.specs.Registered.{RegisteredGroup}
@@ -16,10 +16,9 @@ references_of-append (made ∷ before) more = ap (λ n. length (edges made) + n)
 
 -- a turn of a loop over entries
 pub references_of-turn : (entries : List RecGroupEntry) (n : ℕ) (entry : RecGroupEntry) → n < length entries → entry ≡ get_or entries n entry
-    → references_of (made_by (take (n + 1) entries)) ≡ references_of (made_by (take n entries)) + length entry.outer
+    → references_of (made_by (take (n + 1) entries)) ≡ references_of (made_by (take n entries)) + length (edges (made_of entry))
 references_of-turn entries n entry below is =
-    let here : length (edges (made_of (get_or entries n entry))) ≡ length entry.outer =
-    ap (λ (e : RecGroupEntry). length (edges (made_of e))) (sym is) ∙ length-map entry.outer (λ (reference : ℕ × ℕ). reference.0) in
+    let here : length (edges (made_of (get_or entries n entry))) ≡ length (edges (made_of entry)) = ap (λ (e : RecGroupEntry). length (edges (made_of e))) (sym is) in
     ap (λ es. references_of (made_by es)) (take_more entries n entry below)
     ∙ ap references_of (map-append made_of (take n entries) (get_or entries n entry ∷ []))
     ∙ references_of-append (made_by (take n entries)) (made_by (get_or entries n entry ∷ []))

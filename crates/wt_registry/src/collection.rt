@@ -1,7 +1,33 @@
 //! What a party holds of a module's types.
 
+ghost use Rattle.std.specs.Prelude.{◌≡◌, ◌<◌, ◌^◌, ◌==◌, length, option_map};
+ghost use Rattle.std.specs.List.{list_any};
+ghost use Rattle.wt_model.specs.Indices.{place_in};
+
 use std::marker::Model;
 use wt_env::types::{ModuleInternedTypeIndex, VMSharedTypeIndex};
+use wt_keys::search::place_of;
+
+/// Whether the index is among these.
+fn has_index(indices: &[VMSharedTypeIndex], index: VMSharedTypeIndex) -> bool
+    ensures { result ≡ list_any (λ at. at.0 == index.0) indices.now }
+{
+    indices.iter().any(|at| at.bits() == index.bits())
+}
+
+/// The first place of an index in a map of a module's types.
+fn first_type(
+    map: &[VMSharedTypeIndex],
+    index: VMSharedTypeIndex,
+) -> Option<ModuleInternedTypeIndex>
+    requires { length map.now < 2 ^ 32 }
+    ensures { result ≡ option_map (λ place. record { 0 = place }) (place_in index map.now) }
+{
+    match place_of(map, index) {
+        Some(place) => Some(ModuleInternedTypeIndex(place as u32)),
+        None => None,
+    }
+}
 
 /// The registered types of a module, of which a party has holds: one of each group for each time that the group
 /// occurs in the module. It is never dropped by itself, so it must be spent.
@@ -11,32 +37,46 @@ pub struct TypeCollection {
     party: u32,
     numbers: Vec<u64>,
     map: Vec<VMSharedTypeIndex>,
+    trampolines: Vec<VMSharedTypeIndex>,
 }
 
 impl Model for TypeCollection {
+    ghost use Rattle.std.specs.Prelude.{◌<◌, ◌^◌, length};
     ghost use Rattle.wt_model.specs.Holds.{Collection};
 
     ghost Value = { Collection };
 
-    ghost view = { λ types. record { engine = types.engine; party = types.party; numbers = types.numbers.items; map = types.map.items } };
+    ghost view = { λ types. record {
+      engine = types.engine;
+      party = types.party;
+      numbers = types.numbers.items;
+      map = types.map.items;
+      trampolines = types.trampolines.items;
+    } };
+
+    ghost invariant = { λ types. length types.map.items < 2 ^ 32 };
 }
 
 impl TypeCollection {
-    ghost use Rattle.std.specs.Prelude.{◌≡◌, slice_get};
+    ghost use Rattle.std.specs.Prelude.{◌≡◌, ◌<◌, ◌^◌, length, slice_get};
+    ghost use Rattle.wt_model.specs.FunctionIndices.{module_trampoline};
 
     pub(crate) fn new(
         engine: u64,
         party: u32,
         numbers: Vec<u64>,
         map: Vec<VMSharedTypeIndex>,
+        trampolines: Vec<VMSharedTypeIndex>,
     ) -> TypeCollection
-        ensures { result ≡ record { engine = engine; party = party; numbers = numbers.items; map = map.items } }
+        requires { length map.items < 2 ^ 32 }
+        ensures { result ≡ record { engine = engine; party = party; numbers = numbers.items; map = map.items; trampolines = trampolines.items } }
     {
         TypeCollection {
             engine,
             party,
             numbers,
             map,
+            trampolines,
         }
     }
 
@@ -68,6 +108,19 @@ impl TypeCollection {
         self.map.get(index.0 as usize).copied()
     }
 
+    /// The first type of the module that is registered at this index, where this is the trampoline of one of the
+    /// module's function types. `None` where it is the trampoline of none of them, or where none of the module's
+    /// types is registered there. It takes no memory.
+    pub fn trampoline_type(&self, index: VMSharedTypeIndex) -> Option<ModuleInternedTypeIndex>
+        ensures { result ≡ module_trampoline self.now index }
+    {
+        if has_index(self.trampolines.as_slice(), index) {
+            first_type(self.map.as_slice(), index)
+        } else {
+            None
+        }
+    }
+
     /// The registration number of the group of each occurrence, in order.
     pub(crate) fn numbers(&self) -> &[u64]
         ensures { result.now ≡ self.now.numbers }
@@ -83,6 +136,7 @@ impl TypeCollection {
             party: _,
             numbers: _,
             map: _,
+            trampolines: _,
         } = self;
     }
 }

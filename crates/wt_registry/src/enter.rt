@@ -1,9 +1,12 @@
 //! Registrations that were planned: their limits, the room for them, and then the change.
 
 ghost use Rattle.std.specs.Prelude.{◌≡◌, ℕ, ◌+◌, ◌^◌, ◌<◌, ◌≤◌, ◌++◌, length, map, false, None, Ok, Err, IfOk, IfErr, OnOk, OnErr, List, option_map, vec_len, vec_capacity};
+ghost use Rattle.std.specs.List.{filter_map};
+ghost use Rattle.std.specs.Option.{option_to_list};
 ghost use Rattle.wt_env.specs.Among.{Among};
 ghost use Rattle.wt_env.specs.Limits.{EngineParts};
 ghost use Rattle.wt_model.specs.declared.ever.EverRegistered.{EverRegistered as EverOf};
+ghost use Rattle.wt_model.specs.Trampolines.{trampolines_of};
 ghost use Rattle.wt_model.specs.Reach.{edges};
 ghost use Rattle.wt_model.specs.Holds.{held_at, stop_waiting as no_longer_waits, change, gained, hold, times, hold_each as held_each};
 ghost use Rattle.wt_model.specs.Plan.{Occurs};
@@ -27,6 +30,7 @@ use wt_env::types::VMSharedTypeIndex;
 use wt_holds::hold_counts::{HoldCounts, gain, held_by, no_holds, set_waits};
 use wt_holds::inner::TypeRegistryInner;
 use wt_keys::entry::RecGroupEntry;
+use wt_keys::search::trampoline_of;
 use wt_model::refusal::{BuildRefusal, Full};
 use wt_plan::plan::Plan;
 
@@ -52,13 +56,39 @@ fn new_counts(
     Ok(counts)
 }
 
+/// What these references name doesn't wait.
+fn stop_waiting_named(counts: &mut Vec<HoldCounts>, references: &[(u64, u32)])
+    ensures { standings_of counts.new.items ≡ no_longer_waits (map (λ reference. reference.0) references.now) (standings_of counts.old.items) }
+{
+    for reference in references {
+        set_waits(counts, reference.0, false);
+    }
+}
+
+/// The trampoline of a member doesn't wait, where one is told.
+fn stop_waiting_told(counts: &mut Vec<HoldCounts>, told: Option<u64>)
+    ensures { standings_of counts.new.items ≡ no_longer_waits (option_to_list told) (standings_of counts.old.items) }
+{
+    if let Some(number) = told {
+        set_waits(counts, number, false);
+    }
+}
+
+/// The trampolines that are told don't wait.
+fn stop_waiting_trampolines(counts: &mut Vec<HoldCounts>, trampolines: &[Option<u64>])
+    ensures { standings_of counts.new.items ≡ no_longer_waits (filter_map (λ told. told) trampolines.now) (standings_of counts.old.items) }
+{
+    for told in trampolines {
+        stop_waiting_told(counts, *told);
+    }
+}
+
 /// What an entry's edges lead to doesn't wait.
 fn stop_waiting(counts: &mut Vec<HoldCounts>, entry: &RecGroupEntry)
     ensures { standings_of counts.new.items ≡ no_longer_waits (edges (made_of entry.now)) (standings_of counts.old.items) }
 {
-    for reference in entry.outer.as_slice() {
-        set_waits(counts, reference.0, false);
-    }
+    stop_waiting_named(counts, entry.outer.as_slice());
+    stop_waiting_trampolines(counts, entry.trampolines.as_slice());
 }
 
 /// What new groups lead to doesn't wait.
@@ -190,6 +220,33 @@ pub(crate) fn check_and_commit(
     let rows = new_counts(alloc, engine.limits().parties, plan.added.as_slice())?;
     reserve_groups(groups, plan.added.len())?;
     Ok(insert_entries(groups, party, plan, rows))
+}
+
+/// What was found, behind what is there. There is room for it.
+fn push_found(indices: &mut Vec<VMSharedTypeIndex>, found: Option<VMSharedTypeIndex>)
+    requires { vec_len indices.old < vec_capacity indices.old }
+    ensures items { indices.new.items ≡ indices.old.items ++ option_to_list found }
+    ensures len { vec_len indices.new ≤ vec_len indices.old + 1 }
+    ensures capacity { vec_capacity indices.new ≡ vec_capacity indices.old }
+{
+    if let Some(index) = found {
+        indices.push_reserved(index);
+    }
+}
+
+/// The index of the trampoline of each function type among these, behind what is there. There is room for them.
+pub(crate) fn fill_trampolines(
+    entries: &[RecGroupEntry],
+    indices: &[VMSharedTypeIndex],
+    trampolines: &mut Vec<VMSharedTypeIndex>,
+)
+    requires keys { (top : ℕ) × AreKeys entries.now top }
+    requires room { vec_len trampolines.old + length indices.now ≤ vec_capacity trampolines.old }
+    ensures { trampolines.new.items ≡ trampolines.old.items ++ trampolines_of (made_by entries.now) indices.now }
+{
+    for index in indices {
+        push_found(trampolines, trampoline_of(entries, *index));
+    }
 }
 
 /// One more hold of a party on a registered group. It takes no memory.

@@ -2,7 +2,7 @@
 
 use crate::collection::TypeCollection;
 use crate::debt::Debt;
-use crate::enter::{check_and_commit, hold_one};
+use crate::enter::{check_and_commit, fill_trampolines, hold_one};
 use crate::registered_type::PartyNumber;
 use std::alloc::Global;
 use std::marker::Model;
@@ -12,7 +12,7 @@ use wt_env::seq::Seq;
 use wt_env::types::{ModuleTypes, VMSharedTypeIndex, WasmRecGroup, WasmSubType};
 use wt_holds::inner::TypeRegistryInner;
 use wt_holds::removal::{end_hold, release_groups, sweep_group};
-use wt_keys::search::{borrow_from, live_groups, number_at};
+use wt_keys::search::{borrow_from, live_groups, number_at, trampoline_of};
 use wt_model::ever::EverRegistered;
 use wt_model::live::LiveGroup;
 use wt_model::refusal::{BuildRefusal, Full};
@@ -41,12 +41,15 @@ impl Model for TypeRegistry {
 }
 
 impl TypeRegistry {
-    ghost use Rattle.std.specs.Prelude.{◌≡◌, ℕ, ◌<◌, ◌≤◌, ◌∷◌, [], ◌↔◌, map, false, None, IsTrue, IsSome, IfOk, IfErr, OnOk, OnErr, Ok, Err, Some, true, option_map};
+    ghost use Rattle.std.specs.Prelude.{◌≡◌, ℕ, ◌<◌, ◌≤◌, ◌∷◌, [], ◌↔◌, map, false, None, IsTrue, IsSome, IfOk, IfErr, OnOk, OnErr, Ok, Err, Some, true, option_map, option_and_then};
     ghost use Rattle.std.specs.Option.{option_copied};
     ghost use Rattle.wt_tree.specs.NumberFunction.{is_number_function};
     ghost use Rattle.wt_rules.specs.Rules.{AreCountable, AreModuleTypes};
     ghost use Rattle.wt_model.specs.Registered.{empty_registry};
+    ghost use Rattle.wt_tree.specs.Trampoline.{trampoline};
     ghost use Rattle.wt_model.specs.Indices.{locate, number_of, closed_tree};
+    ghost use Rattle.wt_model.specs.Trampolines.{trampoline_index, trampolines_of};
+    ghost use Rattle.wt_model.specs.FunctionIndices.{IsFunctionIndex};
     ghost use Rattle.wt_model.specs.Shown.{sub_type_at};
     ghost use Rattle.wt_model.specs.Live.{live_of};
     ghost use Rattle.wt_model.specs.Holds.{hold, held_at, IsHolding};
@@ -98,6 +101,28 @@ impl TypeRegistry {
         ensures found { IsSome result ↔ IsSome (locate self.now.made index) }
     {
         borrow_from(self.groups.entries.as_slice(), index)
+    }
+
+    /// Whether the index names a registered function type.
+    pub fn is_function_index(&self, index: VMSharedTypeIndex) -> bool
+        ensures { IsTrue result ↔ IsFunctionIndex self.now.made index }
+    {
+        trampoline_of(self.groups.entries.as_slice(), index).is_some()
+    }
+
+    /// The index of the trampoline of the function type that has this index: the final function with no supertype
+    /// in which each reference became the nullable top of its hierarchy. The trampoline of a trampoline is itself.
+    /// It takes no memory.
+    pub fn trampoline_type(&self, index: VMSharedTypeIndex) -> VMSharedTypeIndex
+        requires function { IsFunctionIndex self.now.made index }
+        ensures value { trampoline_index self.now.made index ≡ Some result }
+        ensures trees { closed_tree self.now.made result ≡ option_and_then trampoline (closed_tree self.now.made index) }
+        ensures own { trampoline_index self.now.made result ≡ Some result }
+    {
+        match trampoline_of(self.groups.entries.as_slice(), index) {
+            Some(trampoline) => trampoline,
+            None => unreachable!(),
+        }
     }
 
     /// The registered groups, in order of their registration numbers.
@@ -180,6 +205,7 @@ impl TypeRegistry {
         ensures ok { IfOk result (λ held. register_groups self.old party.old types.now.groups ≡ Ok (held, self.new)) }
         ensures accepted { OnOk result (registration_refusal self.old party.old (module_groups types.now.groups) ≡ None) }
         ensures refused { IfErr result (λ why. IsRefusal (registration_refusal self.old party.old (module_groups types.now.groups)) why) }
+        ensures trampolines { IfOk result (λ held. held.trampolines ≡ trampolines_of self.new.made held.map) }
         ensures named { IfOk result (λ held. map (closed_tree self.new.made) held.map ≡ map Some (trees_of self.old.made (module_groups types.now.groups))) }
         ensures owner { IfOk result (λ held. held.party ≡ party.old) }
         ensures holding { IfOk result (λ held. IsHolding self.new held) }
@@ -198,6 +224,7 @@ impl TypeRegistry {
         let mut plan = Plan::new(self.alloc, self.groups.given);
         let entries = self.groups.entries.as_slice();
         plan_groups(self.alloc, entries, &mut plan, types.groups.as_slice())?;
+        let mut trampolines = Vec::with_capacity(self.alloc, plan.map.len())?;
         let (numbers, map) = check_and_commit(
             self.alloc,
             &self.engine,
@@ -205,7 +232,15 @@ impl TypeRegistry {
             party.number(),
             plan,
         )?;
-        Ok(TypeCollection::new(self.engine.number(), party.number(), numbers, map))
+        let entries = self.groups.entries.as_slice();
+        fill_trampolines(entries, map.as_slice(), &mut trampolines);
+        Ok(TypeCollection::new(
+            self.engine.number(),
+            party.number(),
+            numbers,
+            map,
+            trampolines,
+        ))
     }
 
     /// Ends the holds of a module's types, and removes at once each group that is reached by no hold and by no

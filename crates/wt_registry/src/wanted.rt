@@ -17,7 +17,7 @@ use wt_env::memory::OutOfMemory;
 use wt_holds::hold_counts::{HoldCounts, held_by};
 use wt_keys::entry::RecGroupEntry;
 use wt_model::refusal::Full;
-use wt_plan::plan::Plan;
+use wt_plan::plan::{Plan, edge_count};
 
 /// How many types the entries have.
 fn types_of(entries: &[RecGroupEntry]) -> Result<u64, OutOfMemory>
@@ -32,15 +32,20 @@ fn types_of(entries: &[RecGroupEntry]) -> Result<u64, OutOfMemory>
     Ok(count)
 }
 
-/// How many references leave the entries' groups.
+/// The sum of two counts.
+fn checked_sum(first: u64, second: u64) -> Result<u64, OutOfMemory>
+    ensures { IfOk result (λ sum. sum ≡ first + second) }
+{
+    first.checked_add(second).ok_or(OutOfMemory)
+}
+
+/// How many edges the entries' groups have, each occurrence counted.
 fn references_of(entries: &[RecGroupEntry]) -> Result<u64, OutOfMemory>
     ensures { IfOk result (λ count. count ≡ references_in (made_by entries.now)) }
 {
     let mut count: u64 = 0;
     for entry in entries {
-        count = count
-            .checked_add(entry.outer.len() as u64)
-            .ok_or(OutOfMemory)?;
+        count = checked_sum(count, edge_count(entry)?)?;
     }
     Ok(count)
 }
@@ -55,13 +60,6 @@ fn first_above(wanted: &[Full]) -> Option<Full>
     ensures { result ≡ first_full wanted.now }
 {
     find_above(wanted).copied()
-}
-
-/// The sum of two counts.
-fn checked_sum(first: u64, second: u64) -> Result<u64, OutOfMemory>
-    ensures { IfOk result (λ sum. sum ≡ first + second) }
-{
-    first.checked_add(second).ok_or(OutOfMemory)
 }
 
 /// The first limit that what stands would pass with what was planned, but for those on holds, where so many

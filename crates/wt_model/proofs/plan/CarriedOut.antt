@@ -16,12 +16,17 @@ use Rattle.wt_model.proofs.plan.StopWaiting.{held_at-stop_waiting_each, holds-st
 use Rattle.wt_model.proofs.plan.HoldsWanted.{held_at-with_new}
 use Rattle.wt_model.proofs.holds.HeldEach.{CanHold, numbers-each, still-each, sized-each, root-each, held-each}
 use Rattle.wt_model.proofs.holds.HoldIn.{leads_down}
-use Rattle.wt_model.proofs.holds.Leads.{Fall, fall, reached-leads, leads-reached, root-reached, reach_wider, reach_joined}
+use Rattle.wt_model.proofs.holds.Leads.{Fall, fall, reached-leads, leads-reached, reach_wider, reach_joined}
 use Rattle.wt_model.proofs.holds.Rooted.{rise_with}
 use Rattle.wt_model.proofs.holds.Stand.{IsSized}
 use Rattle.wt_model.proofs.holds.Zeros.{slice_index-zeros}
 
 -- ---- paths
+
+-- a group leads to itself, and to what its edges name
+pub reach-led : (made : List RegisteredGroup) (by : RegisteredGroup) (n : ℕ) → Among by made → (n ≡ by.number) ⊎ Among n (edges by) → Reach made by.number n
+reach-led made by n there (inl same) = subst (Reach made by.number) (sym same) here
+reach-led made by n there (inr leads) = further by.number n here (by, there, refl, leads)
 
 -- a path within older groups, or one that enters them by an edge of a newer one
 pub reach_from : (made more : List RegisteredGroup) (root number : ℕ) → Reach (made ++ more) root number
@@ -105,7 +110,8 @@ pub record CanCarryOut (engine : EngineParts) (made added : List RegisteredGroup
   pub more_rising : IsRising 0 (made ++ added) more_top
   pub more_older : NamesOlder (made ++ added)
   pub holds : HoldsInvariant engine made standings
-  pub every : (group : RegisteredGroup) → Among group added → Among group.number numbers
+  pub every : (group : RegisteredGroup) → Among group added
+      → (by : RegisteredGroup) × Among by (made ++ added) × Among by.number numbers × ((group.number ≡ by.number) ⊎ Among group.number (edges by))
   pub only : (number : ℕ) → Among number numbers → (group : RegisteredGroup) × Among group (made ++ added) × (group.number ≡ number)
   pub within : party < engine.limits.parties
   pub room : (number : ℕ) → held_at standings party number + times number numbers ≤ engine.limits.holds
@@ -178,11 +184,19 @@ module _ (engine : EngineParts) (made added : List RegisteredGroup) (standings :
           let apart = not_led_by added standings s (rise_with can.top made standings can.rising can.holds.numbers) at waits found.0 found.1 found.2 found.3 in
           waits-alone engine made standings can.older can.holds s found.1 stood waits (λ same. apart (sym same)) found.4
 
-  new_root : (group : RegisteredGroup) → Among group added → is_root after group.number ≡ true
-  new_root group at = held-each engine party numbers middle group.number can_hold (can.every group at)
+  -- a new group is led to by one that is held
+  new_led : (group : RegisteredGroup) → Among group added → (root : ℕ) × (is_root after root ≡ true) × Reach (made ++ added) root group.number
+  new_led group at =
+      let found = can.every group at in (
+        (found.0).number,
+        held-each engine party numbers middle (found.0).number can_hold found.2,
+        reach-led (made ++ added) found.0 group.number found.1 found.3,
+      )
 
   is_reached_still : (m : RegisteredGroup) → Among m made ⊎ Among m added → is_reached (made ++ added) (is_root after) m.number ≡ true
-  is_reached_still m (inr new) = root-reached (made ++ added) (is_root after) m.number (new_root m new)
+  is_reached_still m (inr new) =
+      let led = new_led m new in
+      leads-reached can.more_top (made ++ added) (is_root after) led.0 m.number can.more_rising falls led.1 led.2
   is_reached_still m (inl old) = led (reached-leads made (is_root standings) m.number (can.holds.reached m old))
     where
       led : (from : ℕ) × (is_root standings from ≡ true) × Reach made from m.number → is_reached (made ++ added) (is_root after) m.number ≡ true
@@ -197,8 +211,9 @@ module _ (engine : EngineParts) (made added : List RegisteredGroup) (standings :
               (root-each engine party numbers middle from.0 can_hold (root_before (stop_waiting_each added standings) (map (new_holds engine) added) from.0 root)) path
           by (inr found) =
               let edge : Edge (made ++ added) (found.0).number from.0 = (found.0, among_behind made added found.0 found.1, refl, found.2) in
-              leads-reached can.more_top (made ++ added) (is_root after) (found.0).number m.number can.more_rising falls (new_root found.0 found.1)
-              (reach_joined (made ++ added) (found.0).number from.0 m.number (further (found.0).number from.0 here edge) path)
+              let root = new_led found.0 found.1 in
+              leads-reached can.more_top (made ++ added) (is_root after) root.0 m.number can.more_rising falls root.1
+              (reach_joined (made ++ added) root.0 from.0 m.number (further (found.0).number from.0 root.2 edge) path)
 
   pub carried-holds : HoldsInvariant engine (made ++ added) after
   carried-holds = record {

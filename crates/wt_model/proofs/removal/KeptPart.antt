@@ -1,22 +1,26 @@
 -- Where the groups whose numbers pass are kept, and what they name passes: what is true of them stays true.
-use Rattle.std.proofs.Common.{◌≡◌, ℕ, ◌<◌, ◌≤◌, ◌==◌, ◌⊎◌, inl, inr, Bool, true, false, cond, ◌||◌, ◌&&◌, List, [], ◌∷◌, length, Option, Some, None, refl, sym, ap, ◌∙◌, arith}
+use Rattle.std.proofs.Common.{◌≡◌, ℕ, ◌<◌, ◌≤◌, ◌==◌, ◌⊎◌, inl, inr, Bool, true, false, cond, ◌||◌, ◌&&◌, List, [], ◌∷◌, length, map, Option, Some, None, refl, sym, ap, ◌∙◌, arith}
+use Rattle.std.specs.List.{filter_map}
 use Rattle.std.proofs.lemmas.Bool.{false≢true, or_left, false_from_ne_true, cond-false}
 use Rattle.wt_env.specs.declared.types.VMSharedTypeIndex.{VMSharedTypeIndex}
 use Rattle.wt_env.specs.declared.types.EngineOrModuleTypeIndex.{EngineOrModuleTypeIndex}
 use Rattle.wt_env.specs.declared.types.EngineOrModuleTypeIndex.TheVariants as index
 use Rattle.wt_env.specs.declared.types.Kind.{Kind}
+use Rattle.wt_env.specs.declared.types.WasmSubType.{WasmSubType}
 use Rattle.wt_tree.specs.Tree.{Description, Tree, group, none, close}
+use Rattle.wt_tree.specs.Trampoline.{other_trampoline}
 use Rattle.wt_tree.proofs.Closing.{close-agree}
 use Rattle.wt_model.specs.Registered.{RegisteredGroup}
 use Rattle.wt_env.specs.Among.{Among}
 use Rattle.wt_model.specs.NamedTypes.{HasPlace, HasKind, NamesKind, NamesTypes, NameTypes}
+use Rattle.wt_model.specs.Trampolines.{TellsTrampoline, TellTrampolines, HaveTrampolines}
 use Rattle.wt_model.specs.Trees.{with_tree, trees_from, trees}
 use Rattle.wt_model.specs.Indices.{place_in, located_here, locate}
 use Rattle.wt_model.specs.Sound.{IsRising, OneIndexPerTree, NamesOlder, IsLocated, AreIndexed, AreBelow}
 use Rattle.wt_model.specs.Reach.{edges, leads_to, Reach, here, further}
 use Rattle.wt_model.specs.Removal.{is_reached, kept_made}
 use Rattle.wt_env.proofs.lists.Mapped.{among_mapped}
-use Rattle.wt_env.proofs.lists.Members.{get_among}
+use Rattle.wt_env.proofs.lists.Members.{get_among, among_before, among_behind, some_same}
 use Rattle.wt_model.proofs.holds.Leads.{reach_wider}
 
 -- what a group that passes leads to passes
@@ -29,7 +33,7 @@ KeepsNamed keep made = (a : RegisteredGroup) (reference : ℕ × ℕ) → Among 
 
 -- each reference that leaves a group is an edge
 pub led-named : (keep : ℕ → Bool) (made : List RegisteredGroup) → KeepsLed keep made → KeepsNamed keep made
-led-named keep made led a reference at passes refers = led a reference.0 at passes (among_mapped (λ (r : ℕ × ℕ). r.0) a.description.outer reference refers)
+led-named keep made led a reference at passes refers = led a reference.0 at passes (among_before (map (λ (r : ℕ × ℕ). r.0) a.description.outer) (filter_map (λ (number : Option ℕ). number) a.trampolines) reference.0 (among_mapped (λ (r : ℕ × ℕ). r.0) a.description.outer reference refers))
 
 -- ---- which are kept
 
@@ -211,3 +215,32 @@ pub name_types-kept : (keep : ℕ → Bool) (made : List RegisteredGroup) → Ke
 name_types-kept keep made named name a at =
     let stays = among-kept keep made a at in
     names_types-kept keep made a.description (λ reference there. named a reference stays.0 stays.1 there) (name a stays.0)
+
+-- ---- trampolines
+
+tells-kept : (keep : ℕ → Bool) (made : List RegisteredGroup) (member : Option WasmSubType) (told : Option ℕ) → ((n : ℕ) → told ≡ Some n → keep n ≡ true)
+    → TellsTrampoline made member told → TellsTrampoline (kept_made keep made) member told
+tells-kept keep made None None passes tells = tells
+tells-kept keep made None (Some n) passes tells = tells
+tells-kept keep made (Some member) None passes tells = tells
+tells-kept keep made (Some member) (Some n) passes tells = (tells.0, kept-among keep made tells.0 tells.1 (ap keep tells.2 ∙ passes n refl), tells.2, tells.3)
+
+tell-kept : (keep : ℕ → Bool) (made : List RegisteredGroup) (members : List WasmSubType) (told : List (Option ℕ)) → ((n : ℕ) → Among n (filter_map (λ number. number) told) → keep n ≡ true)
+    → TellTrampolines made members told → TellTrampolines (kept_made keep made) members told
+tell-kept keep made [] [] passes tell = tell
+tell-kept keep made [] (t ∷ told) passes tell = tell
+tell-kept keep made (ty ∷ members) [] passes tell = tell
+tell-kept keep made (ty ∷ members) (None ∷ told) passes tell =
+    (tells-kept keep made (other_trampoline ty) None (λ n same. absurd (cc)) tell.0, tell-kept keep made members told passes tell.1)
+tell-kept keep made (ty ∷ members) (Some n ∷ told) passes tell = (
+  tells-kept keep made (other_trampoline ty) (Some n) (λ k same. passes k (inl (sym (some_same same)))) tell.0,
+  tell-kept keep made members told (λ k there. passes k (inr there)) tell.1,
+)
+
+-- a group that is kept has the trampolines that it had, since edges lead to them
+pub have_trampolines-kept : (keep : ℕ → Bool) (made : List RegisteredGroup) → KeepsLed keep made → HaveTrampolines made → HaveTrampolines (kept_made keep made)
+have_trampolines-kept keep made led have a at =
+    let stays = among-kept keep made a at in
+    tell-kept keep made a.description.members a.trampolines
+    (λ n there. led a n stays.0 stays.1 (among_behind (map (λ (r : ℕ × ℕ). r.0) a.description.outer) (filter_map (λ (number : Option ℕ). number) a.trampolines) n there))
+    (have a stays.0)

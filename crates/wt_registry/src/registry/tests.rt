@@ -242,3 +242,37 @@ fn modules_are_refused(rt: HostRuntime) -> Result<(), Fail> {
     );
     Ok(())
 }
+
+#[test]
+fn a_trampoline_is_told(rt: HostRuntime) -> Result<(), Fail> {
+    let alloc = rt.alloc();
+    let subtype = WasmSubType {
+        is_final: false,
+        ..function(alloc)
+    };
+    let types = two_groups(
+        alloc,
+        alone(alloc, subtype)?,
+        alone(alloc, function(alloc))?,
+    )?;
+    assert!(rt; are_countable(&types) && are_module_types(&types));
+    assert!(rt; EngineLimits::USUAL.valid());
+    let engine = Engine::new(1, EngineLimits::USUAL, true);
+    let mut registry = TypeRegistry::new(alloc, &engine);
+    let mut party = PartyNumber::new(0);
+    let module = registry
+        .register_module(&mut party, &types)
+        .expect(&rt, "a trampoline and another function");
+    has_indices(&rt, &module, &[1, 0]);
+    has_groups(&rt, &registry, &[1, 2]);
+    let index = VMSharedTypeIndex::new(1);
+    assert!(rt; registry.is_function_index(index));
+    assert_eq!(rt; registry.trampoline_type(index), VMSharedTypeIndex::new(0));
+    assert_eq!(rt;
+        module.trampoline_type(VMSharedTypeIndex::new(0)),
+        Some(ModuleInternedTypeIndex(1))
+    );
+    assert_eq!(rt; module.trampoline_type(index), None);
+    module.forget();
+    Ok(())
+}

@@ -4,28 +4,31 @@ use Rattle.wt_tree.specs.MapRefs.{map_group_refs}
 use Rattle.wt_keys.specs.declared.entry.RecGroupEntry.{RecGroupEntry}
 use Rattle.wt_model.specs.Indices.{used, assign_shared_type_indices}
 use Rattle.wt_keys.specs.Entries.{made_by}
-use Rattle.wt_keys.specs.Keys.{Names, own_shown}
+use Rattle.wt_keys.specs.Keys.{ResolvesTo, own_shown}
 use Rattle.wt_plan.proofs.Checked.{checked_value}
 use Rattle.wt_keys.proofs.NewKeys.{new_key, new_made}
+use Rattle.wt_model.proofs.Trampolines.{tell-numbered}
 use Rattle.wt_plan.proofs.plan.new_entry.Goals as goal
 
 pub returns-clause-key : goal.returns-clause-key
 returns-clause-key c =
     let all = c.args.entries.now ++ c.args.added.now in
-    let entry : RecGroupEntry = record { number = c.in_ok-number.number; hash_consing_key = c.args.key; runtime_types = c.in_ok-shown.shown; outer = c.in_ok-outer.outer; shared_type_indices = c.in_ok-indices.indices } in
+    let entry : RecGroupEntry = record { number = c.in_ok-number.number; hash_consing_key = c.args.key; runtime_types = c.in_ok-shown.shown; outer = c.in_ok-outer.outer; trampolines = c.args.trampolines; shared_type_indices = c.in_ok-indices.indices } in
     let number = checked_value c.checked_add.result (c.args.numbers + 1 < 18446744073709551616) (c.args.numbers + 1) entry.number c.checked_add.ensures c.in_ok-number.ensures.ok_part in
-    let names = subst (λ types. Names (made_by all) types entry.outer) c.as_slice.ensures c.in_ok-outer.ensures in
+    let names = subst (λ types. ResolvesTo (made_by all) types entry.outer) c.as_slice.ensures c.in_ok-outer.ensures in
     let indices = c.in_ok-indices.ensures ∙ ap (λ n. assign_shared_type_indices n (used (made_by all))) c.len.ensures in
-    new_key all c.args.numbers entry number names indices c.requires.keys c.requires.kinds c.requires.new
+    let tell = tell-numbered (made_by all) c.args.key.types c.args.trampolines c.requires.tell in
+    new_key all c.args.numbers entry number names c.requires.keys tell indices c.requires.kinds c.requires.new
 
 pub returns-clause-made : goal.returns-clause-made
 returns-clause-made c =
     let all = c.args.entries.now ++ c.args.added.now in
-    let entry : RecGroupEntry = record { number = c.in_ok-number.number; hash_consing_key = c.args.key; runtime_types = c.in_ok-shown.shown; outer = c.in_ok-outer.outer; shared_type_indices = c.in_ok-indices.indices } in
+    let entry : RecGroupEntry = record { number = c.in_ok-number.number; hash_consing_key = c.args.key; runtime_types = c.in_ok-shown.shown; outer = c.in_ok-outer.outer; trampolines = c.args.trampolines; shared_type_indices = c.in_ok-indices.indices } in
     let number = checked_value c.checked_add.result (c.args.numbers + 1 < 18446744073709551616) (c.args.numbers + 1) entry.number c.checked_add.ensures c.in_ok-number.ensures.ok_part in
-    let names = subst (λ types. Names (made_by all) types entry.outer) c.as_slice.ensures c.in_ok-outer.ensures in
+    let names = subst (λ types. ResolvesTo (made_by all) types entry.outer) c.as_slice.ensures c.in_ok-outer.ensures in
     let indices = c.in_ok-indices.ensures ∙ ap (λ n. assign_shared_type_indices n (used (made_by all))) c.len.ensures in
-    new_made all c.args.numbers entry number names indices
+    let tell = tell-numbered (made_by all) c.args.key.types c.args.trampolines c.requires.tell in
+    new_made all c.args.numbers entry number names c.requires.keys tell indices
 
 pub returns-clause-shown : goal.returns-clause-shown
 returns-clause-shown c =

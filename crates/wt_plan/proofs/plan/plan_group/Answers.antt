@@ -7,7 +7,7 @@ use Rattle.wt_tree.specs.MapRefs.{map_group_refs}
 use Rattle.wt_keys.specs.Entries.{made_by}
 use Rattle.wt_keys.specs.Keys.{KeyNamesTypes}
 use Rattle.wt_model.specs.Plan.{plan_key}
-use Rattle.wt_plan.specs.Planned.{AreNamed, PlansOne, plan_of}
+use Rattle.wt_plan.specs.Planned.{AreResolved, PlansOne, plan_of}
 use Rattle.wt_plan.proofs.plan.plan_group.Goals as goal
 
 -- the canonical form by what the calls told is that of the plan's types so far
@@ -23,7 +23,7 @@ pub plan_key-requires-clause-named : goal.plan_key-requires-clause-named
 plan_key-requires-clause-named c =
     let plan = c.args.plan.now in
     let key = canonical_same c.in_ok-start.start c.len.result plan.map.items c.as_slice.result.now c.args.group.now.types c.as_slice-2.result.now c.in_ok-types.types c.in_ok-start.ensures (c.as_slice.ensures.len ∙ sym c.len.ensures) c.as_slice.ensures.value c.as_slice-2.ensures c.in_ok-types.ensures in
-    subst (AreNamed (made_by (c.args.entries.now ++ plan.added.items))) (sym key) c.requires.named
+    subst (AreResolved (made_by (c.args.entries.now ++ plan.added.items))) (sym key) c.requires.named
 
 pub plan_key-requires-clause-kinds : goal.plan_key-requires-clause-kinds
 plan_key-requires-clause-kinds c =

@@ -39,9 +39,12 @@ loop-group-preserved c =
     let n = c.loop-group.group-index in
     let group = c.group-item.result in
     let at = module_group-among groups n group c.loop-group-test.true c.group-item.is in
+    let plan = c.loop-group.plan in
+    let made = made_by (c.args.entries.now ++ plan.added.items) in
+    let named = canonical-named made plan.map.items group.types (module_group-refs groups group c.requires.named at) (trees-located made plan.map.items (module_trees [] (take n groups)) c.loop-group.invariant.named) in
     let more : take (n + 1) groups ≡ take n groups ++ group ∷ [] = take_more groups n group c.loop-group-test.true ∙ ap (λ (last : WasmRecGroup). take n groups ++ last ∷ []) (sym c.group-item.is) in
     subst (λ (done : List WasmRecGroup). Plans c.args.entries.now done c.args.plan.now c.plan_group.new.plan) (sym more)
-    (plans-more c.args.entries.now (take n groups) c.args.plan.now c.loop-group.plan c.plan_group.new.plan group (module_group-refs groups group c.requires.named at)
+    (plans-more c.args.entries.now (take n groups) c.args.plan.now c.loop-group.plan c.plan_group.new.plan group (module_group-refs groups group c.requires.named at) named
     c.loop-group.invariant c.in_ok-plan_group.ensures.one c.in_ok-plan_group.ensures.keys c.in_ok-plan_group.ensures.ok)
 
 pub returns-clause-occurs : goal.returns-clause-occurs

@@ -45,6 +45,15 @@ check_and_commit-requires-clause-occurs c =
     c.in_ok-plan_key.ensures.ok c.in_ok-plan_key.ensures.keys c.in_ok-plan_key.ensures.one in
     one-occurs groups.entries.items groups.given.numbers c.plan_key.new.plan (c.args.ty ∷ []) planned.one
 
+pub check_and_commit-requires-clause-shown : goal.check_and_commit-requires-clause-shown
+check_and_commit-requires-clause-shown c =
+    let groups = c.self.inside.groups in
+    let planned =
+    is_planned c.self.inside.engine groups c.as_slice.result.now c.new-plan.result c.plan_key.new.plan c.in_ok-one.field-0 c.args.self.now c.args.ty
+    c.as_slice.ensures.value c.in_ok-one.ensures c.self.view_is c.new-plan.ensures.added c.new-plan.ensures.given c.new-plan.ensures.numbers c.new-plan.ensures.map
+    c.in_ok-plan_key.ensures.ok c.in_ok-plan_key.ensures.keys c.in_ok-plan_key.ensures.one in
+    planned.one.shown
+
 -- an error that is handed on keeps its cause
 handed : {A : Type 0} (result : Result A BuildRefusal) (why : BuildRefusal) (P : BuildRefusal → Type 0) → IsErrAnd result (λ refusal. refusal ≡ why) → P why → IfErr result P
 handed (Ok x) why P is p = absurd is

@@ -1,8 +1,11 @@
 -- the plan of a module's groups, carried out
-use Rattle.std.proofs.Common.{List, sym, subst}
-use Rattle.wt_rules.specs.Rules.{AreModuleTypes}
+use Rattle.std.proofs.Common.{◌++◌, List, length, sym, ap, subst, arith}
+use Rattle.wt_rules.specs.Rules.{AreModuleTypes, total_members}
+use Rattle.wt_model.specs.Indices.{closed_tree}
+use Rattle.wt_keys.specs.Entries.{made_by}
 use Rattle.wt_keys.specs.declared.entry.RecGroupEntry.{RecGroupEntry}
 use Rattle.wt_plan.specs.Planned.{AreNewBelow}
+use Rattle.wt_registry.proofs.CountedTypes.{length-typed}
 use Rattle.wt_registry.proofs.Soundness.{sound}
 use Rattle.wt_registry.proofs.registry.TypeRegistry.register_module.Goals as goal
 
@@ -18,3 +21,12 @@ returns-in_err-numbers-clause-sound c = sound c.self.inside.engine c.check_and_c
 
 pub returns-clause-sound : goal.returns-clause-sound
 returns-clause-sound c = sound c.self.inside.engine c.check_and_commit.new.groups c.check_and_commit.ensures.kept
+
+-- the module has few types, and the map as many indices
+pub new-requires : goal.new-requires
+new-requires c =
+    let plan = c.plan_groups.new.plan in
+    let typed = length-typed (closed_tree (made_by (c.as_slice-entries.result.now ++ plan.added.items))) plan.map.items c.as_slice.result.now c.in_ok-plan_groups.ensures.named in
+    let same = ap total_members c.as_slice.ensures in
+    let long = ap length c.in_ok-numbers.ensures.map in
+    omega (arith, typed, same, long, c.requires.countable.few_members)
