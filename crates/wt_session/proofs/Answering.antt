@@ -1,5 +1,5 @@
 -- A refused command changes nothing, and each command of a run is answered.
-use Rattle.std.proofs.Common.{◌≡◌, ◌≤◌, ℕ, nat_lt, zero, suc, ◌+◌, ◌<◌, ◌⊎◌, inl, inr, true, false, List, [], ◌∷◌, ◌++◌, length, map, take, get_or, slice_get, slice_set, Option, Some, None, Result, Ok, Err, IfOk, refl, sym, ap, subst, ◌∙◌, arith}
+use Rattle.std.proofs.Common.{◌≡◌, ◌≤◌, ℕ, nat_lt, zero, suc, ◌+◌, ◌<◌, ◌⊎◌, inl, inr, true, false, List, [], ◌∷◌, ◌++◌, length, map, take, get_or, slice_get, slice_set, Option, Some, None, option_and_then, Result, Ok, Err, IfOk, refl, sym, ap, subst, ◌∙◌, arith}
 use Rattle.std.proofs.lemmas.Bool.{false≢true}
 use Rattle.wt_env.specs.declared.types.VMSharedTypeIndex.{VMSharedTypeIndex}
 use Rattle.wt_env.specs.declared.limits.Limit.TheVariants.{Parties}
@@ -14,6 +14,8 @@ use Rattle.wt_registry.specs.Holds.{Collection}
 use Rattle.wt_registry.specs.Registration.{register, register_groups}
 use Rattle.wt_registry.specs.Removal.{drop_hold}
 use Rattle.wt_registry.specs.Sound.{OneIndexPerTree}
+use Rattle.wt_model.specs.Trampolines.{trampoline_index}
+use Rattle.wt_session.specs.declared.command.NamedType.{NamedType}
 use Rattle.wt_session.specs.declared.command.Command.{Command}
 use Rattle.wt_session.specs.declared.command.Command.TheVariants as command
 use Rattle.wt_session.specs.declared.counts.ObjectCounts.{ObjectCounts}
@@ -21,8 +23,8 @@ use Rattle.wt_session.specs.declared.handle.Handle.{Handle}
 use Rattle.wt_session.specs.declared.reply.Refusal.TheVariants as refusal
 use Rattle.wt_session.specs.declared.reply.Reply.{Reply}
 use Rattle.wt_session.specs.declared.reply.Reply.TheVariants as reply
-use Rattle.wt_session.specs.World.{World, party_of, row_of, type_at, debt_at, module_at, HasExactlyReached}
-use Rattle.wt_session.specs.Run.{PartyOutcome, type_made, held_again, clone_made, root_made, hold_ended, type_dropped, debt_swept, module_made, module_released, full_of_parties, party_outcome, counts_after, done_by, sub_type_of, world_after}
+use Rattle.wt_session.specs.World.{World, party_of, row_of, type_at, debt_at, module_at, index_named, HasExactlyReached}
+use Rattle.wt_session.specs.Run.{PartyOutcome, type_made, held_again, clone_made, root_made, hold_ended, type_dropped, debt_swept, module_made, module_released, trampoline_told, full_of_parties, party_outcome, counts_after, done_by, sub_type_of, world_after}
 use Rattle.wt_session.proofs.BuildChecks.{not_below, step-checked}
 use Rattle.wt_session.specs.Answered.{check_of, trees_asked, index_of, is_refusal, TellsCheck, NamesTrees, IsAnswered, AreAnswered}
 
@@ -77,6 +79,10 @@ module_released-unchanged : (registry : Registry) (row : List Handle) (party pla
 module_released-unchanged registry row party place (Some types) = accepted
 module_released-unchanged registry row party place None = λ refuses. (refl, refl)
 
+trampoline_told-unchanged : (registry : Registry) (row : List Handle) (party : ℕ) (ty : NamedType) (index : Option VMSharedTypeIndex) → IsUnchanged registry row (trampoline_told registry row party ty index)
+trampoline_told-unchanged registry row party ty (Some index) = accepted
+trampoline_told-unchanged registry row party ty None = λ refuses. (refl, refl)
+
 outcome-unchanged : (registry : Registry) (row : List Handle) (command : Command) → IsUnchanged registry row (party_outcome registry row command)
 outcome-unchanged registry row (command.HostType by sub) = type_made-unchanged registry row (register registry by (sub_type_of sub))
 outcome-unchanged registry row (command.Module by types) = module_made-unchanged registry row (register_groups registry by types.groups)
@@ -85,6 +91,7 @@ outcome-unchanged registry row (command.Root by index) = root_made-unchanged reg
 outcome-unchanged registry row (command.Drop by place) = type_dropped-unchanged registry row by place (type_at row place)
 outcome-unchanged registry row (command.Sweep by place) = debt_swept-unchanged registry row by place (debt_at row place)
 outcome-unchanged registry row (command.Release by place) = module_released-unchanged registry row by place (module_at row place)
+outcome-unchanged registry row (command.Trampoline by ty) = trampoline_told-unchanged registry row by ty (option_and_then (trampoline_index registry.made) (index_named row ty))
 outcome-unchanged registry row (command.Live by) = accepted
 
 counts-unchanged : (told : Reply) (counts : ObjectCounts) → is_refusal told ≡ true → counts_after told counts ≡ counts

@@ -124,4 +124,5 @@ step-checked world (command.Root by index) asked below is has = absurd (none_ask
 step-checked world (command.Drop by place) asked below is has = absurd (none_asked asked has)
 step-checked world (command.Sweep by place) asked below is has = absurd (none_asked asked has)
 step-checked world (command.Release by place) asked below is has = absurd (none_asked asked has)
+step-checked world (command.Trampoline by ty) asked below is has = absurd (none_asked asked has)
 step-checked world (command.Live by) asked below is has = absurd (none_asked asked has)

@@ -15,7 +15,7 @@ use Rattle.wt_registry.specs.Holds.{IsHolding}
 use Rattle.wt_session.specs.declared.handle.Handle.{Handle}
 use Rattle.wt_session.specs.declared.handle.Handle.TheVariants as handle
 use Rattle.wt_session.specs.World.{numbers_held, held_in}
-use Rattle.wt_session.specs.Session.{IsTypeHandle, IsModuleHandle, IsHandleOf, AreHandles, Keeps}
+use Rattle.wt_session.specs.Session.{AreLocated, IsTypeHandle, IsModuleHandle, IsHandleOf, AreHandles, Keeps}
 use Rattle.wt_env.proofs.lists.Members.{among_either}
 use Rattle.wt_session.proofs.Times.{among_one, among-times, times-pushed, times-ended, held-among, handle-times, among_set, got-among}
 
@@ -63,7 +63,11 @@ still-handle old new party (handle.Type hold) engine located is = record {
   located = located hold.index hold.number (inl refl) is.located;
 }
 still-handle old new party (handle.Owed number) engine located is = tt
-still-handle old new party (handle.Module types) engine located is = record { engine = engine_number old new engine ∙ is.engine; owner = is.owner }
+still-handle old new party (handle.Module types) engine located is = record {
+  engine = engine_number old new engine ∙ is.engine;
+  owner = is.owner;
+  located = λ i at. let found = is.located i at in (found.0, found.1, located i found.0 found.1 found.2);
+}
 still-handle old new party handle.Ended engine located is = tt
 
 -- each handle, with one more
@@ -102,8 +106,8 @@ keeps-pushed old new party row own are changes is sound = record {
 pub keeps-more : (old new : Registry) (party : ℕ) (row : List Handle) (hold : Hold) → AreHandles old party row → HoldChanges old new party (hold.number ∷ []) → IsHeld new hold → hold.party ≡ party → IsSound new → Keeps old new party (row ++ handle.Type hold ∷ [])
 keeps-more old new party row hold are changes held owner = keeps-pushed old new party row (handle.Type hold) are changes (record { engine = held.engine; owner = owner; located = held.located })
 
-pub keeps-module : (old new : Registry) (party : ℕ) (row : List Handle) (types : Collection) → AreHandles old party row → HoldChanges old new party types.numbers → IsHolding new types → types.party ≡ party → IsSound new → Keeps old new party (row ++ handle.Module types ∷ [])
-keeps-module old new party row types are changes holding owner = keeps-pushed old new party row (handle.Module types) are changes (record { engine = holding.engine; owner = owner })
+pub keeps-module : (old new : Registry) (party : ℕ) (row : List Handle) (types : Collection) → AreHandles old party row → HoldChanges old new party types.numbers → IsHolding new types → types.party ≡ party → AreLocated new.made types → IsSound new → Keeps old new party (row ++ handle.Module types ∷ [])
+keeps-module old new party row types are changes holding owner located = keeps-pushed old new party row (handle.Module types) are changes (record { engine = holding.engine; owner = owner; located = located })
 
 -- ---- nothing is changed
 

@@ -1,9 +1,12 @@
 pub mod Answering
 pub mod BuildChecks
 pub mod Counted
+pub mod Functions
 pub mod HandlesKept
 pub mod HostTypes
+pub mod MappedTypes
 pub mod ModuleReplies
+pub mod NamedTypes
 pub mod OneCommand
 pub mod Padding
 pub mod Places

@@ -1,17 +1,14 @@
 -- One command of a party, from its own handles to the session.
-use Rattle.std.proofs.Common.{◌≡◌, ℕ, ◌<◌, ◌≤◌, List, [], length, get_or, slice_get, slice_set, Option, Some, None, Result, Ok, Err, OnErr, sym, ap, subst, ◌∙◌, arith}
+use Rattle.std.proofs.Common.{◌≡◌, ℕ, ◌<◌, ◌≤◌, List, [], length, get_or, slice_set, Result, Ok, Err, OnErr, sym, ap, subst, ◌∙◌, arith}
 use Rattle.wt_registry.specs.Registered.{Registry}
 use Rattle.wt_session.specs.declared.command.Command.{Command}
-use Rattle.wt_session.specs.declared.command.Command.TheVariants as command
 use Rattle.wt_session.specs.declared.counts.ObjectCounts.{ObjectCounts}
 use Rattle.wt_session.specs.declared.handle.Handle.{Handle}
-use Rattle.wt_model.specs.declared.handle_kind.HandleKind.{HandleKind}
-use Rattle.wt_model.specs.declared.handle_kind.HandleKind.TheVariants as kinds
-use Rattle.wt_session.specs.declared.reply.Refusal.TheVariants as refusal
+use Rattle.wt_session.specs.declared.reply.Refusal.{Refusal}
 use Rattle.wt_session.specs.declared.reply.Reply.{Reply}
 use Rattle.wt_session.specs.declared.reply.Reply.TheVariants as reply
 use Rattle.wt_session.specs.declared.party_handles.PartyHandles.{PartyHandles}
-use Rattle.wt_session.specs.World.{party_of, named_handles, row_of}
+use Rattle.wt_session.specs.World.{party_of, row_of}
 use Rattle.wt_session.specs.Run.{PartyOutcome, refused, counted, party_outcome, counts_after, with_outcome, done_by}
 use Rattle.wt_session.specs.Session.{rows_of, padded, world_of, AreHandles, IsKept, Keeps}
 use Rattle.wt_session.proofs.Padding.{kept-padded, read_row, set_row, length-rows, own-row, kept-set, world-row, outcome-world, same-world, row_of-padded, none-past}
@@ -19,44 +16,16 @@ use Rattle.wt_session.proofs.Places.{set-own}
 
 -- ---- a party without handles
 
-abbrev named_or : Option (HandleKind × ℕ) → HandleKind → ℕ → HandleKind × ℕ
-named_or (Some at) kind place = at
-named_or None kind place = (kind, place)
-
-same_named : (kind kind' : HandleKind) (place place' : ℕ) → ◌≡◌ {A = Option (HandleKind × ℕ)} (Some (kind, place)) (Some (kind', place')) → (kind ≡ kind') × (place ≡ place')
-same_named kind kind' place place' h = (ap (λ (at : Option (HandleKind × ℕ)). (named_or at kind place).0) h, ap (λ (at : Option (HandleKind × ℕ)). (named_or at kind place).1) h)
-
--- a refusal that names the handle
-named_at : (registry : Registry) (party : ℕ) (kind kind' : HandleKind) (place place' : ℕ) → ◌≡◌ {A = Option (HandleKind × ℕ)} (Some (kind, place)) (Some (kind', place'))
-    → refused registry [] (refusal.NoSuchHandle party kind place) ≡ refused registry [] (refusal.NoSuchHandle party kind' place')
-named_at registry party kind kind' place place' h =
-    let same = same_named kind kind' place place' h in
-    λ i. refused registry [] (refusal.NoSuchHandle party (same.0 i) (same.1 i))
-
-none-named : (at : HandleKind × ℕ) → None ≡ Some at → ⊥
-none-named at h = absurd (cc)
-
-unheld : (registry : Registry) (command : Command) (kind : HandleKind) (place : ℕ) → slice_get (named_handles command) 0 ≡ Some (kind, place)
-    → party_outcome registry [] command ≡ record { reply = reply.Refused (refusal.NoSuchHandle (party_of command) kind place); registry = registry; row = [] }
-unheld registry (command.HostType by sub) kind place named = absurd (none-named (kind, place) named)
-unheld registry (command.Module by types) kind place named = absurd (none-named (kind, place) named)
-unheld registry (command.Clone by at) kind place named = named_at registry by kinds.Type kind at place named
-unheld registry (command.Root by index) kind place named = absurd (none-named (kind, place) named)
-unheld registry (command.Drop by at) kind place named = named_at registry by kinds.Type kind at place named
-unheld registry (command.Sweep by at) kind place named = named_at registry by kinds.Debt kind at place named
-unheld registry (command.Release by at) kind place named = named_at registry by kinds.Module kind at place named
-unheld registry (command.Live by) kind place named = absurd (none-named (kind, place) named)
-
-pub unheld-done : (registry : Registry) (counts : ObjectCounts) (rows : List (List Handle)) (party : ℕ) (command : Command) (kind : HandleKind) (place : ℕ) → party ≡ party_of command
-    → slice_get (named_handles command) 0 ≡ Some (kind, place) → party < registry.engine.limits.parties → length rows ≤ party → IsKept registry rows
-    → done_by (world_of registry counts rows) command ≡ (reply.Refused (refusal.NoSuchHandle party kind place), world_of registry counts rows)
-unheld-done registry counts rows party command kind place by named below past kept =
+pub unheld-done : (registry : Registry) (counts : ObjectCounts) (rows : List (List Handle)) (party : ℕ) (command : Command) (why : Refusal) → party ≡ party_of command
+    → ((registry : Registry) → party_outcome registry [] command ≡ refused registry [] why) → party < registry.engine.limits.parties → length rows ≤ party → IsKept registry rows
+    → done_by (world_of registry counts rows) command ≡ (reply.Refused why, world_of registry counts rows)
+unheld-done registry counts rows party command why by told below past kept =
     let none : row_of party (padded registry.engine.limits.parties rows) ≡ [] = row_of-padded registry.engine.limits.parties party rows ∙ none-past rows party past in
     ap (λ (p : ℕ). with_outcome (world_of registry counts rows) p (counted counts (party_outcome registry (row_of p (padded registry.engine.limits.parties rows)) command))) (sym by)
     ∙ ap (λ (row : List Handle). with_outcome (world_of registry counts rows) party (counted counts (party_outcome registry row command))) none
-    ∙ ap (λ (own : PartyOutcome). with_outcome (world_of registry counts rows) party (counted counts own)) (unheld registry command kind place named)
-    ∙ (λ i. with_outcome (world_of registry counts rows) party (counted counts (record { reply = reply.Refused (refusal.NoSuchHandle (sym by i) kind place); registry = registry; row = (sym none) i })))
-    ∙ same-world registry counts rows party (refusal.NoSuchHandle party kind place) below kept.parties
+    ∙ ap (λ (own : PartyOutcome). with_outcome (world_of registry counts rows) party (counted counts own)) (told registry)
+    ∙ ap (λ (row : List Handle). with_outcome (world_of registry counts rows) party (counted counts (refused registry row why))) (sym none)
+    ∙ same-world registry counts rows party why below kept.parties
 
 -- ---- rows up to the party
 

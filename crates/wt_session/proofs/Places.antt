@@ -29,6 +29,13 @@ type-got row place hold at = by (slice_get row place) at
     by (Some (handle.Type other)) is = ap (λ (h : Hold). Some (handle.Type h)) (same_some other hold is)
     by other is = absurd (none-some hold is)
 
+pub module-got : (row : List Handle) (place : ℕ) (types : Collection) → module_at row place ≡ Some types → slice_get row place ≡ Some (handle.Module types)
+module-got row place types at = by (slice_get row place) at
+  where
+    by : (got : Option Handle) → module_in got ≡ Some types → got ≡ Some (handle.Module types)
+    by (Some (handle.Module other)) is = ap (λ (t : Collection). Some (handle.Module t)) (same_some other types is)
+    by other is = absurd (none-some types is)
+
 pub no-type : (row : List Handle) (place : ℕ) (h : Handle) → slice_get row place ≡ Some h → ((hold : Hold) → h ≡ handle.Type hold → ⊥) → type_at row place ≡ None
 no-type row place (handle.Type hold) is not = absurd (not hold refl)
 no-type row place other is not = ap type_in is

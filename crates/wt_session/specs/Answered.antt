@@ -57,6 +57,7 @@ index_of bits = record { 0 = bits }
 abbrev pub indices_of : Reply → Option (List VMSharedTypeIndex)
 indices_of (reply.TypeMade place index) = Some (index_of index ∷ [])
 indices_of (reply.Module place indices) = Some (map index_of indices)
+indices_of (reply.Index index) = Some (index_of index ∷ [])
 indices_of other = None
 
 abbrev pub is_refusal : Reply → Bool

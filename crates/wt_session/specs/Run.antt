@@ -1,9 +1,10 @@
 -- What a session answers to commands, and what they change.
-use Rattle.std.specs.Prelude.{ℕ, ◌+◌, nat_lt, if◌then◌else◌, List, [], ◌∷◌, ◌++◌, length, map, slice_set, true, Option, Some, None, Result, Ok, Err}
+use Rattle.std.specs.Prelude.{ℕ, ◌+◌, nat_lt, if◌then◌else◌, List, [], ◌∷◌, ◌++◌, length, map, slice_set, true, Option, Some, None, option_and_then, Result, Ok, Err}
 use Rattle.wt_env.specs.declared.types.WasmValType.{WasmValType}
 use Rattle.wt_env.specs.declared.types.WasmValType.TheVariants as val
 use Rattle.wt_env.specs.declared.types.WasmCompositeInnerType.TheVariants as shape
 use Rattle.wt_env.specs.declared.types.WasmSubType.{WasmSubType}
+use Rattle.wt_env.specs.declared.types.VMSharedTypeIndex.{VMSharedTypeIndex}
 use Rattle.wt_env.specs.declared.limits.Limit.TheVariants.{Parties}
 use Rattle.wt_model.specs.declared.swept.Swept.{Swept}
 use Rattle.wt_model.specs.declared.refusal.Full.{Full}
@@ -15,10 +16,13 @@ use Rattle.wt_registry.specs.Holds.{Collection}
 use Rattle.wt_registry.specs.Registration.{register, register_groups}
 use Rattle.wt_registry.specs.Removal.{drop_hold as dropped, sweep_debt as swept, release_holds}
 use Rattle.wt_registry.specs.Live.{live_of}
+use Rattle.wt_model.specs.Trampolines.{trampoline_index}
 use Rattle.wt_session.specs.declared.command.HostVal.{HostVal}
 use Rattle.wt_session.specs.declared.command.HostVal.TheVariants as host
 use Rattle.wt_session.specs.declared.command.HostSub.{HostSub}
 use Rattle.wt_session.specs.declared.command.HostSub.TheVariants as host_sub
+use Rattle.wt_session.specs.declared.command.NamedType.{NamedType}
+use Rattle.wt_session.specs.declared.command.NamedType.TheVariants as named
 use Rattle.wt_session.specs.declared.command.Command.{Command}
 use Rattle.wt_session.specs.declared.command.Command.TheVariants as command
 use Rattle.wt_session.specs.declared.counts.ObjectCounts.{ObjectCounts}
@@ -29,7 +33,7 @@ use Rattle.wt_session.specs.declared.reply.Refusal.{Refusal}
 use Rattle.wt_session.specs.declared.reply.Refusal.TheVariants as refusal
 use Rattle.wt_session.specs.declared.reply.Reply.{Reply}
 use Rattle.wt_session.specs.declared.reply.Reply.TheVariants as reply
-use Rattle.wt_session.specs.World.{World, party_of, row_of, type_at, debt_at, module_at}
+use Rattle.wt_session.specs.World.{World, party_of, row_of, type_at, debt_at, module_at, index_named}
 
 -- a value type that the host names
 abbrev pub val_type_of : HostVal → WasmValType
@@ -125,6 +129,16 @@ module_released registry row party place (Some types) = record {
 }
 module_released registry row party place None = refused registry row (refusal.NoSuchHandle party kind.Module place)
 
+-- how a command is refused that names no type, or none that fits
+abbrev pub no_such_type : ℕ → NamedType → Refusal
+no_such_type party (named.Handle place) = refusal.NoSuchHandle party kind.Type place
+no_such_type party (named.OfModule place ty) = refusal.NoSuchType party place ty
+
+-- the index of the trampoline of the type that is named, if that is a function
+abbrev pub trampoline_told : Registry → List Handle → ℕ → NamedType → Option VMSharedTypeIndex → PartyOutcome
+trampoline_told registry row party ty (Some index) = record { reply = reply.Index index.0; registry = registry; row = row }
+trampoline_told registry row party ty None = refused registry row (no_such_type party ty)
+
 -- The same for a party below the limit that has these handles.
 abbrev pub party_outcome : Registry → List Handle → Command → PartyOutcome
 party_outcome registry row (command.HostType by sub) = type_made registry row (register registry by (sub_type_of sub))
@@ -134,6 +148,7 @@ party_outcome registry row (command.Root by index) = root_made registry row (roo
 party_outcome registry row (command.Drop by place) = type_dropped registry row by place (type_at row place)
 party_outcome registry row (command.Sweep by place) = debt_swept registry row by place (debt_at row place)
 party_outcome registry row (command.Release by place) = module_released registry row by place (module_at row place)
+party_outcome registry row (command.Trampoline by ty) = trampoline_told registry row by ty (option_and_then (trampoline_index registry.made) (index_named row ty))
 party_outcome registry row (command.Live by) = record { reply = reply.Live (live_of registry.made); registry = registry; row = row }
 
 -- ---- commands in turn

@@ -2,7 +2,7 @@
 use Rattle.std.specs.Prelude.{◌≡◌, ◌≢◌, ℕ, ◌-◌, ◌≤◌, List, [], ◌++◌, length, map, replicate, Some}
 use Rattle.wt_env.specs.Limits.{EngineParts}
 use Rattle.wt_env.specs.declared.types.VMSharedTypeIndex.{VMSharedTypeIndex}
-use Rattle.wt_registry.specs.Registered.{Registry, empty_registry}
+use Rattle.wt_registry.specs.Registered.{RegisteredGroup, Registry, empty_registry}
 use Rattle.wt_registry.specs.Holds.{Hold, held_at}
 use Rattle.wt_env.specs.Among.{Among}
 use Rattle.wt_registry.specs.Indices.{number_of}
@@ -43,10 +43,15 @@ pub record IsTypeHandle (registry : Registry) (party : ℕ) (hold : Hold) : Type
   pub owner : hold.party ≡ party
   pub located : number_of registry.made hold.index ≡ Some hold.number
 
--- a handle on a module: of the engine and the party
+-- each index of a module's types is that of a registered group which the module holds
+abbrev pub AreLocated : List RegisteredGroup → Collection → Type 0
+AreLocated made types = (i : VMSharedTypeIndex) → Among i types.map → (n : ℕ) × Among n types.numbers × (number_of made i ≡ Some n)
+
+-- a handle on a module: of the engine and the party, with the indices of groups that it holds
 pub record IsModuleHandle (registry : Registry) (party : ℕ) (types : Collection) : Type 0 where
   pub engine : registry.engine.number ≡ types.engine
   pub owner : types.party ≡ party
+  pub located : AreLocated registry.made types
 
 -- what is true of each handle of a party
 abbrev pub IsHandleOf : Registry → ℕ → Handle → Type 0

@@ -1,13 +1,17 @@
 -- A session as contracts see it, and which groups are registered in it.
-use Rattle.std.specs.Prelude.{◌≡◌, ℕ, zero, suc, List, [], ◌∷◌, ◌++◌, slice_get, Bool, true, false, Option, Some, None}
+use Rattle.std.specs.Prelude.{◌≡◌, ℕ, zero, suc, List, [], ◌∷◌, ◌++◌, slice_get, Bool, true, false, Option, Some, None, option_map, option_and_then}
 use Rattle.std.specs.List.{flat_map}
+use Rattle.wt_env.specs.declared.types.VMSharedTypeIndex.{VMSharedTypeIndex}
 use Rattle.wt_registry.specs.Registered.{RegisteredGroup, Registry}
+use Rattle.wt_registry.specs.Indices.{number_of}
 use Rattle.wt_registry.specs.Holds.{Hold, waiting}
 use Rattle.wt_env.specs.Among.{Among}
 use Rattle.wt_registry.specs.Holds.{Collection}
 use Rattle.wt_registry.specs.Rules.{AreCountable, AreModuleTypes}
 use Rattle.wt_registry.specs.Sound.{IsRising}
 use Rattle.wt_registry.specs.Reach.{Reach}
+use Rattle.wt_session.specs.declared.command.NamedType.{NamedType}
+use Rattle.wt_session.specs.declared.command.NamedType.TheVariants as named
 use Rattle.wt_session.specs.declared.command.Command.{Command}
 use Rattle.wt_session.specs.declared.command.Command.TheVariants as command
 use Rattle.wt_session.specs.declared.counts.ObjectCounts.{ObjectCounts}
@@ -36,7 +40,13 @@ party_of (command.Root by index) = by
 party_of (command.Drop by place) = by
 party_of (command.Sweep by place) = by
 party_of (command.Release by place) = by
+party_of (command.Trampoline by ty) = by
 party_of (command.Live by) = by
+
+-- the handle by which a type is named, with the kind that it has to be of
+abbrev pub handle_naming : NamedType → HandleKind × ℕ
+handle_naming (named.Handle place) = (kind.Type, place)
+handle_naming (named.OfModule place ty) = (kind.Module, place)
 
 -- the handles that a command names, in the order of its keys, with the kinds that they have to be of
 abbrev pub named_handles : Command → List (HandleKind × ℕ)
@@ -44,9 +54,10 @@ named_handles (command.Clone by place) = (kind.Type, place) ∷ []
 named_handles (command.Drop by place) = (kind.Type, place) ∷ []
 named_handles (command.Sweep by place) = (kind.Debt, place) ∷ []
 named_handles (command.Release by place) = (kind.Module, place) ∷ []
+named_handles (command.Trampoline by ty) = handle_naming ty ∷ []
 named_handles other = []
 
--- a drop, a sweep and a release take no memory
+-- a drop, a sweep, a release and a trampoline take no memory
 abbrev pub takes_memory : Command → Bool
 takes_memory (command.HostType by sub) = true
 takes_memory (command.Module by types) = true
@@ -55,9 +66,10 @@ takes_memory (command.Root by index) = true
 takes_memory (command.Drop by place) = false
 takes_memory (command.Sweep by place) = false
 takes_memory (command.Release by place) = false
+takes_memory (command.Trampoline by ty) = false
 takes_memory (command.Live by) = true
 
--- drops, sweeps and releases alone
+-- commands alone that take no memory
 abbrev pub TakeNoMemory : List Command → Type 0
 TakeNoMemory commands = (command : Command) → Among command commands → takes_memory command ≡ false
 
@@ -120,6 +132,17 @@ module_in other = None
 abbrev pub module_at : List Handle → ℕ → Option Collection
 module_at row place = module_in (slice_get row place)
 
+-- the index of the type that is named by a party's handles, if there is one: of a type handle, or in a module's map
+abbrev pub index_named : List Handle → NamedType → Option VMSharedTypeIndex
+index_named row (named.Handle place) = option_map (λ hold. hold.index) (type_at row place)
+index_named row (named.OfModule place ty) = option_and_then (λ types. slice_get types.map ty) (module_at row place)
+
+-- Each index that a party names by a handle is that of a registered group, which the party holds.
+abbrev pub HoldsNamedTypes : World → Type 0
+HoldsNamedTypes world =
+    (party : ℕ) (ty : NamedType) (i : VMSharedTypeIndex) → index_named (row_of party world.handles) ty ≡ Some i
+    → (number : ℕ) × Among number (held_in (row_of party world.handles)) × (number_of world.registry.made i ≡ Some number)
+
 -- what a caller sees to: a module's lists are short, and its references are by module index
 abbrev pub IsCommand : Command → Type 0
 IsCommand (command.HostType by sub) = Unit {0}
@@ -129,6 +152,7 @@ IsCommand (command.Root by index) = Unit {0}
 IsCommand (command.Drop by place) = Unit {0}
 IsCommand (command.Sweep by place) = Unit {0}
 IsCommand (command.Release by place) = Unit {0}
+IsCommand (command.Trampoline by ty) = Unit {0}
 IsCommand (command.Live by) = Unit {0}
 
 abbrev pub AreCommands : List Command → Type 0

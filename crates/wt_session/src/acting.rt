@@ -1,8 +1,8 @@
 //! Commands of a party on its own handles.
 
-ghost use Rattle.std.specs.Prelude.{◌≡◌, ◌<◌, false, IfOk, OnErr, IsOk};
-ghost use Rattle.wt_session.specs.World.{party_of, takes_memory, IsCommand};
-ghost use Rattle.wt_session.specs.Run.{party_outcome, done_by};
+ghost use Rattle.std.specs.Prelude.{◌≡◌, ◌<◌, [], false, IfOk, IfSome, IfNone, OnErr, IsOk};
+ghost use Rattle.wt_session.specs.World.{party_of, named_handles, takes_memory, IsCommand};
+ghost use Rattle.wt_session.specs.Run.{refused, party_outcome, done_by};
 ghost use Rattle.wt_session.specs.Answered.{trees_asked, NamesTrees};
 ghost use Rattle.wt_session.specs.Session.{rows_of, world_of, AreHandles, IsKept, Keeps};
 
@@ -10,8 +10,9 @@ use crate::command::Command;
 use crate::counts::ObjectCounts;
 use crate::handle::Handle;
 use crate::module_handles::{register_module, release_module};
+use crate::named_types::{no_such_type, trampoline_of_type};
 use crate::party_handles::{PartyHandles, add_missing_parties};
-use crate::reply::Reply;
+use crate::reply::{HandleKind, Refusal, Reply};
 use crate::type_handles::{
     clone_type, drop_type, no_such_handle, register_type, root_type, sweep_debt,
 };
@@ -47,11 +48,33 @@ fn run_command(
         Command::Drop { by: _, handle } => Ok(drop_type(registry, party, row, *handle)),
         Command::Sweep { by: _, handle } => Ok(sweep_debt(registry, party, row, *handle)),
         Command::Release { by: _, handle } => { Ok(release_module(registry, party, row, *handle)) }
+        Command::Trampoline { by: _, ty } => {
+            Ok(trampoline_of_type(registry, party, row.as_slice(), *ty))
+        }
         Command::Live { by: _ } => Ok(Reply::Live(registry.live()?)),
     }
 }
 
-/// One command of a party below the limit. A drop, a sweep and a release take no memory.
+/// How a command is refused where its party has no handles; `None` exactly where it names none.
+fn refusal_without_handles(command: &Command) -> Option<Refusal>
+    ensures refused { IfSome result (λ why. (registry : _) → party_outcome registry [] command.now ≡ refused registry [] why) }
+    ensures named { IfSome result (λ why. named_handles command.now ≡ [] → ⊥) }
+    ensures none { IfNone result (named_handles command.now ≡ []) }
+{
+    match command {
+        Command::Clone { by, handle } => Some(no_such_handle(*by, HandleKind::Type, *handle)),
+        Command::Drop { by, handle } => Some(no_such_handle(*by, HandleKind::Type, *handle)),
+        Command::Sweep { by, handle } => Some(no_such_handle(*by, HandleKind::Debt, *handle)),
+        Command::Release { by, handle } => Some(no_such_handle(*by, HandleKind::Module, *handle)),
+        Command::Trampoline { by, ty } => Some(no_such_type(*by, *ty)),
+        Command::HostType { by: _, sub: _ } => None,
+        Command::Module { by: _, groups: _ } => None,
+        Command::Root { by: _, index: _ } => None,
+        Command::Live { by: _ } => None,
+    }
+}
+
+/// One command of a party below the limit. A drop, a sweep, a release and a trampoline take no memory.
 pub(crate) fn run_command_of_party(
     alloc: Global,
     registry: &mut TypeRegistry,
@@ -71,9 +94,9 @@ pub(crate) fn run_command_of_party(
     ensures kept { IsKept registry.new (rows_of rows.new.items) }
     ensures takes_no_memory { takes_memory command.now ≡ false → IsOk result }
 {
-    if let Some((kind, handle)) = command.first_named_handle() {
+    if let Some(why) = refusal_without_handles(command) {
         if rows.len() <= party as usize {
-            return Ok(no_such_handle(party, kind, handle));
+            return Ok(Reply::Refused(why));
         }
     }
     add_missing_parties(alloc, rows, party)?;

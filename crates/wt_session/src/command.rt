@@ -3,7 +3,6 @@
 ghost use Rattle.std.specs.Prelude.{IsTrue, ◌↔◌};
 ghost use Rattle.wt_session.specs.World.{IsCommand, AreCommands};
 
-use crate::reply::HandleKind;
 use wt_env::seq::Seq;
 use wt_env::types::ModuleTypes;
 use wt_registry::rules::{are_countable, are_module_types};
@@ -28,6 +27,15 @@ pub enum HostSub {
     },
 }
 
+/// A type that a command names by a handle of its party.
+#[derive(Clone, Copy, Debug, PartialEq, Eq)]
+pub enum NamedType {
+    /// The type of a handle.
+    Handle(u32),
+    /// The type of this module type index, of the module of a handle.
+    OfModule { handle: u32, ty: u32 },
+}
+
 /// One command, by a party of this number.
 #[derive(Debug, PartialEq, Eq, Drop)]
 pub enum Command {
@@ -45,13 +53,16 @@ pub enum Command {
     Sweep { by: u32, handle: u32 },
     /// Releases a module.
     Release { by: u32, handle: u32 },
+    /// Tells the index of the trampoline of a function type, by which callers that know nothing of its
+    /// references enter it.
+    Trampoline { by: u32, ty: NamedType },
     /// Tells which groups are registered.
     Live { by: u32 },
 }
 
 impl Command {
-    ghost use Rattle.std.specs.Prelude.{◌≡◌, slice_get};
-    ghost use Rattle.wt_session.specs.World.{party_of, named_handles};
+    ghost use Rattle.std.specs.Prelude.{◌≡◌};
+    ghost use Rattle.wt_session.specs.World.{party_of};
 
     /// The number of the party whose command it is.
     pub fn by(&self) -> u32
@@ -65,20 +76,8 @@ impl Command {
             Command::Drop { by, handle: _ } => *by,
             Command::Sweep { by, handle: _ } => *by,
             Command::Release { by, handle: _ } => *by,
+            Command::Trampoline { by, ty: _ } => *by,
             Command::Live { by } => *by,
-        }
-    }
-
-    /// The first handle that the command names, with the kind that it has to be of.
-    pub(crate) fn first_named_handle(&self) -> Option<(HandleKind, u32)>
-        ensures { result ≡ slice_get (named_handles self.now) 0 }
-    {
-        match self {
-            Command::Clone { by: _, handle } => Some((HandleKind::Type, *handle)),
-            Command::Drop { by: _, handle } => Some((HandleKind::Type, *handle)),
-            Command::Sweep { by: _, handle } => Some((HandleKind::Debt, *handle)),
-            Command::Release { by: _, handle } => Some((HandleKind::Module, *handle)),
-            _ => None,
         }
     }
 }

@@ -12,8 +12,10 @@ pub mod party_handles;
 // and does what is asked of them: on types,
 mod host;
 mod type_handles;
-// and on modules.
+// on modules,
 mod module_handles;
+// and on the types that they name.
+mod named_types;
 // What was made is counted, and a reply is given.
 pub mod counts;
 pub mod reply;

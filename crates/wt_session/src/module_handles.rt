@@ -1,6 +1,7 @@
 //! A party's handles on modules: how they are made and released.
 
 ghost use Rattle.std.specs.Prelude.{◌≡◌, ◌+◌, ◌^◌, ◌<◌, ◌≤◌, ◌++◌, ◌∷◌, [], length, map, IfOk, OnErr, Some, slice_get, vec_len, vec_capacity};
+ghost use Rattle.std.specs.Option.{option_copied};
 ghost use Rattle.wt_registry.specs.Rules.{AreCountable, AreModuleTypes, total_members};
 ghost use Rattle.wt_registry.specs.Registration.{register_groups, module_groups, trees_of};
 ghost use Rattle.wt_session.specs.World.{module_at};
@@ -88,6 +89,16 @@ pub(crate) fn register_module(
     }
 }
 
+/// The types of a module handle.
+pub(crate) fn find_module(row: &[Handle], handle: u32) -> Option<&TypeCollection>
+    ensures { option_copied result ≡ module_at row.now handle }
+{
+    match row.get(handle as usize) {
+        Some(Handle::Module(types)) => Some(types),
+        _ => None,
+    }
+}
+
 /// Releases a party's module: its holds end, and what isn't reached any more is removed. It takes no memory.
 pub(crate) fn release_module(
     registry: &mut TypeRegistry,
@@ -104,7 +115,7 @@ pub(crate) fn release_module(
 {
     let place = handle as usize;
     if place >= row.len() {
-        return no_such_handle(party.number(), HandleKind::Module, handle);
+        return Reply::Refused(no_such_handle(party.number(), HandleKind::Module, handle));
     }
     match take(row, place) {
         Handle::Module(types) => {
@@ -113,7 +124,7 @@ pub(crate) fn release_module(
         }
         other => {
             put(row, place, other);
-            no_such_handle(party.number(), HandleKind::Module, handle)
+            Reply::Refused(no_such_handle(party.number(), HandleKind::Module, handle))
         }
     }
 }

@@ -25,6 +25,13 @@ pub enum Refusal {
         kind: HandleKind,
         handle: u32,
     },
+    /// The party has no type of this module type index in a module of this number, or none of the kind that
+    /// fits.
+    NoSuchType {
+        party: u32,
+        handle: u32,
+        ty: u32,
+    },
 }
 
 /// The answer to one command.
@@ -46,6 +53,8 @@ pub enum Reply {
     Swept(Swept),
     /// The module was released.
     Released,
+    /// The index of a type.
+    Index(u32),
     /// The registered groups, in order of their registration numbers.
     Live(Seq<LiveGroup>),
     /// The command was refused.

@@ -2,7 +2,7 @@
 
 ghost use Rattle.std.specs.Prelude.{◌≡◌, ℕ, ◌≤◌, ◌<◌, ◌+◌, ◌⊎◌, ◌++◌, ◌∷◌, [], length, take, OnOk, OnErr, IsOk, vec_len, vec_capacity};
 ghost use Rattle.wt_registry.specs.Sound.{OneIndexPerTree};
-ghost use Rattle.wt_session.specs.World.{HasExactlyReached, TakeNoMemory, TakesMemoryAt, AreCommands};
+ghost use Rattle.wt_session.specs.World.{HasExactlyReached, HoldsNamedTypes, TakeNoMemory, TakesMemoryAt, AreCommands};
 ghost use Rattle.wt_session.specs.Run.{replies_of, world_after};
 ghost use Rattle.wt_session.specs.Answered.{EachReply, IsAcceptedAsChecked, NamesTreesAsked, LeavesAllIfRefused, HasOneIndexPerTree, IsExactlyReached};
 
@@ -16,11 +16,12 @@ use wt_env::memory::OutOfMemory;
 /// the types need, and no limit is passed. Else the reply tells the first cause. An accepted registration is
 /// answered with indices whose closed trees are the command's, and a refused command leaves all as before. After
 /// each command two registered types have one index exactly where their closed trees are equal, and the registered
-/// groups are exactly those reached from what is held or waits for a sweep.
+/// groups are exactly those reached from what is held or waits for a sweep. Each index that a party names by a
+/// handle afterwards is that of a registered group, which the party holds.
 ///
 /// The only error is want of memory. Then some of the commands from the first on are done and replied to, and
 /// no other is done in part: either none is done, or the next one takes memory. It never comes where each command
-/// is a drop, a sweep or a release, and there is room for their replies.
+/// is a drop, a sweep, a release or a trampoline, and there is room for their replies.
 ///
 /// What a caller sees to is tested by `are_commands`: the lists of a module's types are shorter than 2^32, and
 /// they refer to types by module indices.
@@ -44,6 +45,7 @@ pub fn run_session(
     ensures takes_no_memory { TakeNoMemory commands.now → vec_len replies.old + length commands.now ≤ vec_capacity replies.old → IsOk result }
     ensures one_index { OneIndexPerTree session.new.registry.made }
     ensures reached { HasExactlyReached session.new }
+    ensures named_types { HoldsNamedTypes session.new }
 {
     session.tell_invariant();
     replies.reserve(commands.len())?;

@@ -37,7 +37,7 @@ impl Session {
     ghost use Rattle.std.specs.Prelude.{◌≡◌, false, IfOk, OnErr, IsOk};
     ghost use Rattle.wt_registry.specs.Sound.{OneIndexPerTree};
     ghost use Rattle.wt_registry.specs.Live.{live_of};
-    ghost use Rattle.wt_session.specs.World.{HasExactlyReached, takes_memory, IsCommand};
+    ghost use Rattle.wt_session.specs.World.{HasExactlyReached, HoldsNamedTypes, takes_memory, IsCommand};
     ghost use Rattle.wt_session.specs.Run.{step};
     ghost use Rattle.wt_session.specs.Answered.{IsAnswered};
     ghost use Rattle.wt_session.specs.Session.{new_world};
@@ -68,6 +68,7 @@ impl Session {
     pub(crate) fn tell_invariant(&self)
         ensures reached { HasExactlyReached self.now }
         ensures one_index { OneIndexPerTree self.now.registry.made }
+        ensures named_types { HoldsNamedTypes self.now }
     {
         let _ = &self.registry;
     }
@@ -81,6 +82,7 @@ impl Session {
         ensures takes_no_memory { takes_memory command.now ≡ false → IsOk result }
         ensures one_index { OneIndexPerTree self.new.registry.made }
         ensures reached { HasExactlyReached self.new }
+        ensures named_types { HoldsNamedTypes self.new }
     {
         let party = command.by();
         let bound = self.registry.engine().limits().parties;

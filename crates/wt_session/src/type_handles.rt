@@ -21,15 +21,15 @@ use wt_registry::refusal::BuildRefusal;
 use wt_registry::registered_type::{PartyNumber, RegisteredType};
 use wt_registry::registry::TypeRegistry;
 
-/// The reply where a party has no handle of this kind under this number.
-pub(crate) fn no_such_handle(party: u32, kind: HandleKind, handle: u32) -> Reply
-    ensures { result ≡ Reply.Refused (Refusal.NoSuchHandle party kind handle) }
+/// How a command is refused that names a handle of this kind under a number where its party has none.
+pub(crate) fn no_such_handle(party: u32, kind: HandleKind, handle: u32) -> Refusal
+    ensures { result ≡ Refusal.NoSuchHandle party kind handle }
 {
-    Reply::Refused(Refusal::NoSuchHandle {
+    Refusal::NoSuchHandle {
         party,
         kind,
         handle,
-    })
+    }
 }
 
 /// The reply to a registration that is refused; want of memory is handed on.
@@ -86,7 +86,7 @@ pub(crate) fn register_type(
 }
 
 /// The hold of a type handle.
-fn find_type(row: &[Handle], handle: u32) -> Option<&RegisteredType>
+pub(crate) fn find_type(row: &[Handle], handle: u32) -> Option<&RegisteredType>
     ensures { option_copied result ≡ type_at row.now handle }
 {
     match row.get(handle as usize) {
@@ -116,7 +116,7 @@ pub(crate) fn clone_type(
             Ok(copy) => Ok(push_type(row, copy)),
             Err(full) => Ok(Reply::Refused(Refusal::Full(full))),
         },
-        None => Ok(no_such_handle(party.number(), HandleKind::Type, handle)),
+        None => Ok(Reply::Refused(no_such_handle(party.number(), HandleKind::Type, handle))),
     }
 }
 
@@ -177,7 +177,7 @@ pub(crate) fn drop_type(
 {
     let place = handle as usize;
     if place >= row.len() {
-        return no_such_handle(party.number(), HandleKind::Type, handle);
+        return Reply::Refused(no_such_handle(party.number(), HandleKind::Type, handle));
     }
     match take(row, place) {
         Handle::Type(hold) => match hold.decref(registry, party) {
@@ -189,7 +189,7 @@ pub(crate) fn drop_type(
         },
         other => {
             put(row, place, other);
-            no_such_handle(party.number(), HandleKind::Type, handle)
+            Reply::Refused(no_such_handle(party.number(), HandleKind::Type, handle))
         }
     }
 }
@@ -209,13 +209,13 @@ pub(crate) fn sweep_debt(
 {
     let place = handle as usize;
     if place >= row.len() {
-        return no_such_handle(party.number(), HandleKind::Debt, handle);
+        return Reply::Refused(no_such_handle(party.number(), HandleKind::Debt, handle));
     }
     match take(row, place) {
         Handle::Owed(debt) => Reply::Swept(registry.sweep(debt)),
         other => {
             put(row, place, other);
-            no_such_handle(party.number(), HandleKind::Debt, handle)
+            Reply::Refused(no_such_handle(party.number(), HandleKind::Debt, handle))
         }
     }
 }

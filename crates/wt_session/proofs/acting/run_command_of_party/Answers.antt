@@ -13,8 +13,7 @@ returns-then-len-party-clause-ok c =
     let registry = c.args.registry.now in
     let rows = c.args.rows.now.items in
     let past : length (rows_of rows) ≤ c.args.party = omega (arith, length-rows rows, c.len.ensures, c.if-len-party.true) in
-    unheld-done registry c.args.counts.now (rows_of rows) c.args.party c.args.command.now c.in-Some.kind c.in-Some.handle c.requires.by (sym c.in-Some.ensures) c.requires.below past c.requires.kept
-    ∙ ap (λ told. (told, world_of registry c.args.counts.now (rows_of rows))) (sym c.no_such_handle.ensures)
+    unheld-done registry c.args.counts.now (rows_of rows) c.args.party c.args.command.now c.in-Some.why c.requires.by c.in-Some.ensures.refused c.requires.below past c.requires.kept
 
 pub returns-in_err-add_missing_parties-clause-kept : goal.returns-in_err-add_missing_parties-clause-kept
 returns-in_err-add_missing_parties-clause-kept c =

@@ -9,6 +9,7 @@ use Rattle.wt_session.specs.Answered.{NamesTrees}
 use Rattle.wt_session.specs.Session.{Keeps}
 use Rattle.wt_session.proofs.Answering.{module-names}
 use Rattle.wt_session.proofs.HandlesKept.{keeps-module}
+use Rattle.wt_session.proofs.MappedTypes.{module-located}
 use Rattle.wt_session.proofs.ModuleReplies.{as_many}
 use Rattle.wt_session.proofs.module_handles.register_module.Goals as goal
 
@@ -30,4 +31,5 @@ returns-in-Ok-clause-keeps c =
     let types = c.in-Ok.types in
     let pushed = c.push_module.ensures.row ∙ ap (λ (row : List Handle). row ++ handle.Module types ∷ []) c.in_ok-reserve.ensures.items in
     subst (Keeps c.args.registry.now c.register_module.new.self c.args.party.now) (sym pushed)
-    (keeps-module c.args.registry.now c.register_module.new.self c.args.party.now c.args.row.now.items types c.requires.handles c.in-Ok.ensures.changes c.in-Ok.ensures.holding c.in-Ok.ensures.owner c.in-Ok.ensures.sound)
+    (keeps-module c.args.registry.now c.register_module.new.self c.args.party.now c.args.row.now.items types c.requires.handles c.in-Ok.ensures.changes c.in-Ok.ensures.holding c.in-Ok.ensures.owner
+    (module-located c.args.registry.now c.register_module.new.self c.args.party.now c.args.groups.now.groups types c.in-Ok.ensures.ok c.in-Ok.ensures.sound.is_located) c.in-Ok.ensures.sound)

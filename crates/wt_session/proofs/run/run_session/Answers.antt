@@ -43,6 +43,7 @@ loop-command-init c =
       answered = subst (AreAnswered c.args.session.now c.args.commands.now (length before)) (sym kept) (answered-none c.args.session.now c.args.commands.now before);
       one_index = c.tell_invariant.ensures.one_index;
       reached = c.tell_invariant.ensures.reached;
+      named_types = c.tell_invariant.ensures.named_types;
       room = omega (arith, c.in_ok-reserve.ensures.ok);
     }
 
@@ -68,6 +69,7 @@ loop-command-preserved c =
       world = both.1;
       one_index = c.step.ensures.one_index;
       reached = c.step.ensures.reached;
+      named_types = c.step.ensures.named_types;
       room = omega (arith, c.push_reserved.ensures.len, c.push_reserved.ensures.capacity, c.loop-command.invariant.room, below);
     }
 

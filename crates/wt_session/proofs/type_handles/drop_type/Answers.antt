@@ -54,12 +54,12 @@ returns-in_default c =
     let back : c.put-in_default.new.row.items ≡ row =
     c.put-in_default.ensures ∙ ap (λ (r : List Handle). slice_set r place other) c.take.ensures.row
     ∙ set-twice row place handle.Ended other ∙ set-own row place other c.take.ensures.taken in
-    let told : reply.Refused (refusal.NoSuchHandle c.args.party.now kind.Type place) ≡ c.no_such_handle-in_default.result =
-    ap (λ (party : ℕ). reply.Refused (refusal.NoSuchHandle party kind.Type place)) (sym c.number-in_default.ensures)
+    let told : refusal.NoSuchHandle c.args.party.now kind.Type place ≡ c.no_such_handle-in_default.result =
+    ap (λ (party : ℕ). refusal.NoSuchHandle party kind.Type place) (sym c.number-in_default.ensures)
     ∙ sym c.no_such_handle-in_default.ensures in
     record {
       done = ap (type_dropped registry row c.args.party.now place) (no-type row place other c.take.ensures.taken (λ hold same. c.in_default.not-Type hold same))
-          ∙ (λ i. record { reply = told i; registry = registry; row = (sym back) i });
+          ∙ (λ i. record { reply = reply.Refused (told i); registry = registry; row = (sym back) i });
       party = refl;
       keeps = subst (Keeps registry registry c.args.party.now) (sym back) (keeps-same registry c.args.party.now row c.requires.handles);
     }

@@ -5,9 +5,10 @@ use Rattle.wt_env.specs.Limits.{EngineParts}
 use Rattle.wt_env.specs.declared.limits.EngineLimits.{EngineLimits}
 use Rattle.wt_registry.specs.Sound.{OneIndexPerTree}
 use Rattle.wt_session.specs.Session.{rows_of, world_of}
-use Rattle.wt_session.specs.World.{World, party_of, HasExactlyReached}
+use Rattle.wt_session.specs.World.{World, party_of, HasExactlyReached, HoldsNamedTypes}
 use Rattle.wt_session.specs.Answered.{IsAnswered}
 use Rattle.wt_session.proofs.Answering.{refused-answered, done-answered}
+use Rattle.wt_session.proofs.NamedTypes.{named-held}
 use Rattle.wt_session.proofs.Reached.{reached}
 use Rattle.wt_session.proofs.session.Session.step.Goals as goal
 
@@ -36,3 +37,10 @@ returns-clause-answered c =
 
 pub returns-clause-reached : goal.returns-clause-reached
 returns-clause-reached c = reached c.run_command_of_party.new.registry c.run_command_of_party.new.counts (rows_of c.run_command_of_party.new.rows.items) c.run_command_of_party.ensures.kept
+
+pub returns-then-party-bound-clause-named_types : goal.returns-then-party-bound-clause-named_types
+returns-then-party-bound-clause-named_types c =
+    subst HoldsNamedTypes c.self.view_is (named-held c.self.inside.registry c.self.inside.counts (rows_of c.self.inside.rows.items) c.self.invariant)
+
+pub returns-clause-named_types : goal.returns-clause-named_types
+returns-clause-named_types c = named-held c.run_command_of_party.new.registry c.run_command_of_party.new.counts (rows_of c.run_command_of_party.new.rows.items) c.run_command_of_party.ensures.kept
