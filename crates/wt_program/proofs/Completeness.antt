@@ -1,6 +1,7 @@
 -- Each other answer has a cause that the premises rule out.
 use Rattle.std.proofs.Common.{◌≡◌, ℕ, ◌<◌, ◌≤◌, ◌^◌, inl, inr, List, [], ◌++◌, length, Option, Some, None, Result, Ok, Err, refl, sym, ap, subst, ◌∙◌, arith, length-append, append-nil}
 use Rattle.serde_json.specs.Data.{Data}
+use Rattle.wt_env.specs.Limits.{EngineParts}
 use Rattle.wt_env.specs.Stream.{IsTaken, IsAtEnd}
 use Rattle.wt_env.specs.declared.status.Status.{Status}
 use Rattle.wt_env.specs.declared.status.Status.TheVariants as statuses
@@ -34,37 +35,37 @@ some_none : {x : Data} → Some x ≡ None → ⊥
 some_none h = cc
 
 abbrev Outcome : Type 0
-Outcome = Result (List Command) ℕ
+Outcome = Result (EngineParts × List Command) ℕ
 
-ok_err : {commands : List Command} {place : ℕ} → (let outcome : Outcome = Ok commands in outcome ≡ Err place) → ⊥
+ok_err : {input : EngineParts × List Command} {place : ℕ} → (let outcome : Outcome = Ok input in outcome ≡ Err place) → ⊥
 ok_err h = cc
 
 same_value : (bytes : List ℕ) (a b : Data) → IsJson bytes a → IsJson bytes b → a ≡ b
 same_value bytes a b ja jb = some_same (sym ja.is_read ∙ jb.is_read)
 
-not_refused : (bytes : List ℕ) (commands : List Command) → Decodes bytes commands → IsNotJson bytes → ⊥
-not_refused bytes commands decodes refused = some_none (sym decodes.is_json.is_read ∙ refused decodes.is_json.is_utf8)
+not_refused : (bytes : List ℕ) (engine : EngineParts) (commands : List Command) → Decodes bytes engine commands → IsNotJson bytes → ⊥
+not_refused bytes engine commands decodes refused = some_none (sym decodes.is_json.is_read ∙ refused decodes.is_json.is_utf8)
 
-not_bad : (bytes : List ℕ) (commands : List Command) (place : ℕ) → Decodes bytes commands → IsBadAt bytes place → ⊥
-not_bad bytes commands place decodes bad =
+not_bad : (bytes : List ℕ) (engine : EngineParts) (commands : List Command) (place : ℕ) → Decodes bytes engine commands → IsBadAt bytes place → ⊥
+not_bad bytes engine commands place decodes bad =
     ok_err (sym decodes.is_decoded ∙ ap decode (same_value bytes decodes.value bad.value decodes.is_json bad.is_json) ∙ bad.is_bad)
 
 pub complete : (status : Status) (left left' : Option (List ℕ)) (read_faults read_faults' : ℕ) (taken taken' : Option (List ℕ)) (write_faults write_faults' : ℕ) → Runs status left left' read_faults read_faults' taken taken' write_faults write_faults' → (status ≡ statuses.Usage → ⊥) → IsComplete status left read_faults read_faults' write_faults write_faults'
-complete statuses.Done left left' rf rf' taken taken' wf wf' runs usage calm calm' bytes commands is within decodes = inl refl
-complete statuses.OutOfMemory left left' rf rf' taken taken' wf wf' runs usage calm calm' bytes commands is within decodes = inr refl
-complete statuses.Usage left left' rf rf' taken taken' wf wf' runs usage calm calm' bytes commands is within decodes = absurd (usage refl)
-complete statuses.ReadFault left left' rf rf' taken taken' wf wf' runs usage calm calm' bytes commands is within decodes = absurd (calm (runs.read_fault refl))
-complete statuses.WriteFault left left' rf rf' taken taken' wf wf' runs usage calm calm' bytes commands is within decodes = absurd (calm' (runs.write_fault refl))
-complete statuses.TooLong left left' rf rf' taken taken' wf wf' runs usage calm calm' bytes commands is within decodes =
+complete statuses.Done left left' rf rf' taken taken' wf wf' runs usage calm calm' bytes engine commands is within decodes = inl refl
+complete statuses.OutOfMemory left left' rf rf' taken taken' wf wf' runs usage calm calm' bytes engine commands is within decodes = inr refl
+complete statuses.Usage left left' rf rf' taken taken' wf wf' runs usage calm calm' bytes engine commands is within decodes = absurd (usage refl)
+complete statuses.ReadFault left left' rf rf' taken taken' wf wf' runs usage calm calm' bytes engine commands is within decodes = absurd (calm (runs.read_fault refl))
+complete statuses.WriteFault left left' rf rf' taken taken' wf wf' runs usage calm calm' bytes engine commands is within decodes = absurd (calm' (runs.write_fault refl))
+complete statuses.TooLong left left' rf rf' taken taken' wf wf' runs usage calm calm' bytes engine commands is within decodes =
     let long = runs.too_long refl in
     let short : length long.0 ≤ length bytes = taken_within long.0 bytes left' (subst (λ before. IsTaken long.0 before left') is long.1) in
     let many : 2 ^ 24 < length long.0 = long.2 in
     absurd (omega (arith, short, many, within))
-complete statuses.NotJson left left' rf rf' taken taken' wf wf' runs usage calm calm' bytes commands is within decodes =
+complete statuses.NotJson left left' rf rf' taken taken' wf wf' runs usage calm calm' bytes engine commands is within decodes =
     let refused = runs.not_json refl in
     let same : bytes ≡ refused.0 = taken_all refused.0 bytes left' (subst (λ before. IsTaken refused.0 before left') is refused.1.taken) refused.1.at_end in
-    absurd (not_refused bytes commands decodes (subst IsNotJson (sym same) refused.2))
-complete (statuses.BadCommand place) left left' rf rf' taken taken' wf wf' runs usage calm calm' bytes commands is within decodes =
+    absurd (not_refused bytes engine commands decodes (subst IsNotJson (sym same) refused.2))
+complete (statuses.BadCommand place) left left' rf rf' taken taken' wf wf' runs usage calm calm' bytes engine commands is within decodes =
     let bad = runs.bad_command place refl in
     let same : bytes ≡ bad.0 = taken_all bad.0 bytes left' (subst (λ before. IsTaken bad.0 before left') is bad.1.taken) bad.1.at_end in
-    absurd (not_bad bytes commands place decodes (subst (λ bs. IsBadAt bs place) (sym same) bad.2))
+    absurd (not_bad bytes engine commands place decodes (subst (λ bs. IsBadAt bs place) (sym same) bad.2))

@@ -1,18 +1,21 @@
 -- What is decoded from a short text are commands that a session can run.
-use Rattle.std.proofs.Common.{Vec, Global, ◌≡◌, ℕ, suc, ◌+◌, ◌==◌, ◌<◌, ◌≤◌, ◌^◌, inl, inr, List, length, Option, Some, None, option_map, option_and_then, Result, Ok, Err, sym, subst, arith}
+use Rattle.std.proofs.Common.{◌≡◌, ℕ, suc, ◌+◌, ◌==◌, ◌<◌, ◌≤◌, ◌^◌, inl, inr, List, length, Option, Some, None, option_map, option_and_then, Result, Ok, Err, sym, subst, arith}
 use Rattle.std.specs.Prelude.{⊤, IfSome, IfOk, bytes_eq, codes}
 use Rattle.std.specs.Option.{option_map_or}
 use Rattle.serde_json.specs.Data.{Data, Items, no_items, item}
 use Rattle.serde_json.specs.Find.{get, as_str, as_array}
 use Rattle.serde_json.specs.Read.{read}
 use Rattle.wt_env.specs.DecodeGroups.{decode_groups}
+use Rattle.wt_env.specs.Limits.{EngineParts}
 use Rattle.wt_env.specs.declared.types.ModuleTypes.{ModuleTypes}
 use Rattle.wt_registry.specs.Rules.{total_members, AreCountable, AreModuleTypes}
 use Rattle.wt_session.specs.declared.command.Command.{Command}
 use Rattle.wt_session.specs.declared.command.Command.TheVariants as command
 use Rattle.wt_session.specs.World.{IsCommand, AreCommands}
 use Rattle.wt_program.specs.declared.decode.DecodeError.{DecodeError}
-use Rattle.wt_program.specs.Decode.{own_key_count, decode_sub, decode_by, by_and_number, decode_live, type_from, decode_type, module_from, decode_module, decode_clone, decode_root, decode_drop, decode_sweep, decode_release, command_called, decode_command, put_first, decode_commands, decode}
+use Rattle.wt_program.specs.declared.decode.Input.{Input}
+use Rattle.wt_program.specs.DecodeEngine.{usual_engine, decode_engine}
+use Rattle.wt_program.specs.Decode.{own_key_count, decode_sub, decode_by, by_and_number, decode_live, type_from, decode_type, module_from, decode_module, decode_clone, decode_root, decode_drop, decode_sweep, decode_release, decode_named_type, trampoline_from, decode_trampoline, command_called, decode_command, put_first, decode_commands, with_engine, decode_list, decode}
 use Rattle.wt_program.specs.ItemCount.{item_count, items_count}
 use Rattle.wt_program.proofs.Decoding.{any_value, mapped, chained, either}
 use Rattle.wt_program.proofs.DecodedItems.{list_items, value_items, decoded_items}
@@ -53,6 +56,11 @@ module_fits : (d : Data) → item_count d < 2 ^ 32 → IfSome (decode_module d) 
 module_fits d short =
     either IsCommand (own_key_count d == 2) _ None (chained (λ by. ⊤) IsCommand (λ by. module_from by d) (λ by any. module_from_fits by d short) (decode_by d) (any_value (decode_by d))) tt
 
+trampoline_fits : (d : Data) → IfSome (decode_trampoline d) IsCommand
+trampoline_fits d =
+    either IsCommand (own_key_count d == 2) _ None
+    (chained (λ by. ⊤) IsCommand (λ by. trampoline_from by d) (λ by any. plain (command.Trampoline by) (λ ty. tt) (option_and_then decode_named_type (get (codes "type") d))) (decode_by d) (any_value (decode_by d))) tt
+
 called_fits : (word : List ℕ) (d : Data) → item_count d < 2 ^ 32 → IfSome (command_called word d) IsCommand
 called_fits word d short =
     either IsCommand (bytes_eq word (codes "live")) (decode_live d) _ (live_fits d) (
@@ -62,7 +70,8 @@ called_fits word d short =
     either IsCommand (bytes_eq word (codes "root")) (decode_root d) _ (plain (λ numbers. command.Root numbers.0 numbers.1) (λ numbers. tt) (by_and_number (codes "index") d)) (
     either IsCommand (bytes_eq word (codes "drop")) (decode_drop d) _ (plain (λ numbers. command.Drop numbers.0 numbers.1) (λ numbers. tt) (by_and_number (codes "handle") d)) (
     either IsCommand (bytes_eq word (codes "sweep")) (decode_sweep d) _ (plain (λ numbers. command.Sweep numbers.0 numbers.1) (λ numbers. tt) (by_and_number (codes "handle") d)) (
-    either IsCommand (bytes_eq word (codes "release")) (decode_release d) None (plain (λ numbers. command.Release numbers.0 numbers.1) (λ numbers. tt) (by_and_number (codes "handle") d)) tt)))))))
+    either IsCommand (bytes_eq word (codes "release")) (decode_release d) _ (plain (λ numbers. command.Release numbers.0 numbers.1) (λ numbers. tt) (by_and_number (codes "handle") d)) (
+    either IsCommand (bytes_eq word (codes "trampoline")) (decode_trampoline d) None (trampoline_fits d) tt))))))))
 
 command_fits : (d : Data) → item_count d < 2 ^ 32 → IfSome (decode_command d) IsCommand
 command_fits d short =
@@ -81,16 +90,30 @@ commands_fit place no_items short = λ other among. absurd among
 commands_fit place (item d ds) short =
     first_fits place (decode_command d) (decode_commands (suc place) ds) (command_fits d (omega arith)) (commands_fit (suc place) ds (omega arith))
 
-all_fit : (o : Option Items) (n : ℕ) → n < 2 ^ 32 → IfSome o (λ ds. items_count ds ≤ n) → IfOk (option_map_or (decode_commands 1) o (Err 0)) AreCommands
-all_fit None n short few = tt
-all_fit (Some ds) n short few = commands_fit 1 ds (omega (arith, few, short))
+-- ---- with an engine
 
-pub decoded_commands : (bytes : List ℕ) (d : Data) (commands : List Command) → read bytes ≡ Some d → length bytes < 2 ^ 32 → decode d ≡ Ok commands → AreCommands commands
-decoded_commands bytes d commands is_read short is =
-    subst (λ outcome. IfOk outcome AreCommands) is (all_fit (as_array d) (item_count d) (omega (arith, item_count_read bytes d is_read, short)) (list_items d))
+engine_fits : (engine : EngineParts) (outcome : Result (List Command) ℕ) → IfOk outcome AreCommands → IfOk (with_engine engine outcome) (λ input. AreCommands input.1)
+engine_fits engine (Ok commands) fit = fit
+engine_fits engine (Err place) fit = tt
+
+list_fits : (ds : Items) → items_count ds < 2 ^ 32 → IfOk (decode_list ds) (λ input. AreCommands input.1)
+list_fits no_items short = λ other among. absurd among
+list_fits (item d ds) short = by (decode_engine d)
+  where
+    by : (first : Option EngineParts) → IfOk (option_map_or (λ engine. with_engine engine (decode_commands 2 ds)) first (with_engine usual_engine (decode_commands 1 (item d ds)))) (λ input. AreCommands input.1)
+    by None = engine_fits usual_engine (decode_commands 1 (item d ds)) (commands_fit 1 (item d ds) short)
+    by (Some engine) = engine_fits engine (decode_commands 2 ds) (commands_fit 2 ds (omega (arith, short)))
+
+all_fit : (o : Option Items) (n : ℕ) → n < 2 ^ 32 → IfSome o (λ ds. items_count ds ≤ n) → IfOk (option_map_or decode_list o (Err 0)) (λ input. AreCommands input.1)
+all_fit None n short few = tt
+all_fit (Some ds) n short few = list_fits ds (omega (arith, few, short))
+
+pub decoded_commands : (bytes : List ℕ) (d : Data) (engine : EngineParts) (commands : List Command) → read bytes ≡ Some d → length bytes < 2 ^ 32 → decode d ≡ Ok (engine, commands) → AreCommands commands
+decoded_commands bytes d engine commands is_read short is =
+    subst (λ (outcome : Result (EngineParts × List Command) ℕ). IfOk outcome (λ input. AreCommands input.1)) is (all_fit (as_array d) (item_count d) (omega (arith, item_count_read bytes d is_read, short)) (list_items d))
 
 -- the same of what the decoder answers
-pub commands_of_text : (result : Result (Vec Command Global) DecodeError) (d : Data) → IfOk result (λ commands. decode d ≡ Ok commands.items)
-    → IfOk result (λ commands. (bytes : List ℕ) → read bytes ≡ Some d → length bytes < 2 ^ 32 → AreCommands commands.items)
-commands_of_text (Ok commands) d is = λ bytes is_read short. decoded_commands bytes d commands.items is_read short is
+pub commands_of_text : (result : Result Input DecodeError) (d : Data) → IfOk result (λ input. decode d ≡ Ok (input.engine, input.commands.items))
+    → IfOk result (λ input. (bytes : List ℕ) → read bytes ≡ Some d → length bytes < 2 ^ 32 → AreCommands input.commands.items)
+commands_of_text (Ok input) d is = λ bytes is_read short. decoded_commands bytes d input.engine input.commands.items is_read short is
 commands_of_text (Err error) d is = tt

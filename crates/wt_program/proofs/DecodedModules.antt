@@ -6,7 +6,7 @@ use Rattle.serde_json.specs.Data.{Data, Items, no_items, item}
 use Rattle.serde_json.specs.Find.{get, as_str, as_array}
 use Rattle.wt_env.specs.Json.{key_count, only_at, decode_u32, each_of, two_of}
 use Rattle.wt_env.specs.DecodeValues.{abstract_named, decode_index, decode_concrete, decode_heap, nullable_named, ref_to, decode_spelled_ref, decode_ref, number_named, decode_number, decode_val, packed_named, decode_packed, decode_storage, field_of, decode_field}
-use Rattle.wt_env.specs.DecodeGroups.{decode_numbers, func_from, decode_func, decode_struct, decode_array, composite_in, final_of, decode_member, decode_group, decode_groups}
+use Rattle.wt_env.specs.DecodeGroups.{decode_vals, func_from, decode_func, decode_struct, decode_array, composite_in, final_of, decode_member, decode_group, decode_groups}
 use Rattle.wt_env.specs.declared.types.EngineOrModuleTypeIndex.{EngineOrModuleTypeIndex}
 use Rattle.wt_env.specs.declared.types.EngineOrModuleTypeIndex.TheVariants.{Module}
 use Rattle.wt_env.specs.declared.types.Kind.{Kind}
@@ -166,10 +166,10 @@ FuncIs func = ShapeIs (shape.Func func)
 
 func_from_is : (params results : Data) → IfSome (func_from params results) FuncIs
 func_from_is params results =
-    chained (EachIs ValIs) FuncIs (λ ps. option_map (λ rs. record { params = ps; results = rs }) (decode_numbers results))
+    chained (EachIs ValIs) FuncIs (λ ps. option_map (λ rs. record { params = ps; results = rs }) (decode_vals results))
     (λ ps first. mapped (EachIs ValIs) FuncIs (λ rs. record { params = ps; results = rs })
-    (λ rs second. each_append (λ reference. IsOfModule reference.1) (kinded_vals ps) (kinded_vals rs) (vals_are ps first) (vals_are rs second)) (decode_numbers results) (listed ValIs decode_number number_is results))
-    (decode_numbers params) (listed ValIs decode_number number_is params)
+    (λ rs second. each_append (λ reference. IsOfModule reference.1) (kinded_vals ps) (kinded_vals rs) (vals_are ps first) (vals_are rs second)) (decode_vals results) (listed ValIs decode_val val_is results))
+    (decode_vals params) (listed ValIs decode_val val_is params)
   where
     vals_are : (vs : List WasmValType) → EachIs ValIs vs → AreOfModule (kinded_vals vs)
     vals_are vs each = each_flat (λ reference. IsOfModule reference.1) kinded_val vs each

@@ -1,20 +1,24 @@
--- Which commands a JSON value stands for (JSON as of RFC 8259). A command is an object with exactly
--- the keys that are named, and maybe `by`; any other value, key or form is no command.
+-- Which engine and commands a JSON value stands for (JSON as of RFC 8259). A command is an object with
+-- exactly the keys that are named, and maybe `by`; any other value, key or form is no command.
 use Rattle.std.specs.Prelude.{ℕ, suc, ◌-◌, ◌==◌, bytes_eq, codes, List, [], ◌∷◌, Option, Some, None, Result, Ok, Err, option_map, option_and_then, if◌then◌else◌}
 use Rattle.std.specs.Option.{option_map_or}
 use Rattle.serde_json.specs.Data.{Data, Items, no_items, item}
 use Rattle.serde_json.specs.Find.{get, as_str, as_array}
 use Rattle.wt_env.specs.DecodeGroups.{decode_groups}
 use Rattle.wt_env.specs.DecodeValues.{decode_number}
+use Rattle.wt_env.specs.Limits.{EngineParts}
 use Rattle.wt_env.specs.Json.{key_count, decode_u32, each_of, two_of}
 use Rattle.wt_env.specs.declared.types.WasmValType.{WasmValType}
 use Rattle.wt_env.specs.declared.types.WasmValType.TheVariants as types
+use Rattle.wt_program.specs.DecodeEngine.{usual_engine, decode_engine}
 use Rattle.wt_session.specs.declared.command.HostVal.{HostVal}
 use Rattle.wt_session.specs.declared.command.HostVal.TheVariants.{I32, I64, F32, F64, V128}
 use Rattle.wt_session.specs.declared.command.HostSub.{HostSub}
 use Rattle.wt_session.specs.declared.command.HostSub.TheVariants.{Func}
+use Rattle.wt_session.specs.declared.command.NamedType.{NamedType}
+use Rattle.wt_session.specs.declared.command.NamedType.TheVariants as named
 use Rattle.wt_session.specs.declared.command.Command.{Command}
-use Rattle.wt_session.specs.declared.command.Command.TheVariants.{HostType, Module, Clone, Root, Drop, Sweep, Release, Live}
+use Rattle.wt_session.specs.declared.command.Command.TheVariants.{HostType, Module, Clone, Root, Drop, Sweep, Release, Trampoline, Live}
 
 -- a number or vector type as a command of the host names it; none for a reference
 abbrev pub host_val : WasmValType → Option HostVal
@@ -110,6 +114,32 @@ decode_sweep d = option_map (λ numbers. Sweep numbers.0 numbers.1) (by_and_numb
 abbrev pub decode_release : Data → Option Command
 decode_release d = option_map (λ numbers. Release numbers.0 numbers.1) (by_and_number (codes "handle") d)
 
+-- the type of a handle: {"handle": a number}
+abbrev pub type_of_handle : Data → Option NamedType
+type_of_handle d = if key_count d == 1 then option_map named.Handle (decode_u32_at (codes "handle") d) else None
+
+-- a type of a module: {"handle": a number, "type": a number}
+abbrev pub type_of_module : Data → Data → Option NamedType
+type_of_module d ty =
+    if key_count d == 2
+    then option_and_then (λ place. option_map (named.OfModule place) (decode_u32 ty)) (decode_u32_at (codes "handle") d)
+    else None
+
+-- a type that is named by a handle
+abbrev pub named_type_from : Data → Option Data → Option NamedType
+named_type_from d None = type_of_handle d
+named_type_from d (Some ty) = type_of_module d ty
+
+abbrev pub decode_named_type : Data → Option NamedType
+decode_named_type d = named_type_from d (get (codes "type") d)
+
+-- {"do": "trampoline", "type": a type that is named}
+abbrev pub trampoline_from : ℕ → Data → Option Command
+trampoline_from by d = option_map (Trampoline by) (option_and_then decode_named_type (get (codes "type") d))
+
+abbrev pub decode_trampoline : Data → Option Command
+decode_trampoline d = if own_key_count d == 2 then option_and_then (λ by. trampoline_from by d) (decode_by d) else None
+
 -- the command of an object whose key `do` has this word
 abbrev pub command_called : List ℕ → Data → Option Command
 command_called word d =
@@ -120,7 +150,8 @@ command_called word d =
     if bytes_eq word (codes "root") then decode_root d else (
     if bytes_eq word (codes "drop") then decode_drop d else (
     if bytes_eq word (codes "sweep") then decode_sweep d else (
-    if bytes_eq word (codes "release") then decode_release d else None)))))))
+    if bytes_eq word (codes "release") then decode_release d else (
+    if bytes_eq word (codes "trampoline") then decode_trampoline d else None))))))))
 
 -- a command: an object whose key `do` says which
 abbrev pub decode_command : Data → Option Command
@@ -137,7 +168,18 @@ abbrev pub decode_commands : ℕ → Items → Result (List Command) ℕ
 decode_commands place no_items = Ok []
 decode_commands place (item d ds) = put_first place (decode_command d) (decode_commands (suc place) ds)
 
--- the commands of a list, whose places begin at 1; or the place of the first element that is no
--- command, and 0 where the value is no list
-abbrev pub decode : Data → Result (List Command) ℕ
-decode d = option_map_or (decode_commands 1) (as_array d) (Err 0)
+-- commands for an engine
+abbrev pub with_engine : EngineParts → Result (List Command) ℕ → Result (EngineParts × List Command) ℕ
+with_engine engine (Ok commands) = Ok (engine, commands)
+with_engine engine (Err place) = Err place
+
+-- the engine that the first item is, and the commands that the others stand for; where the first is no engine, the
+-- usual one, and the commands of all. The first item has place 1.
+abbrev pub decode_list : Items → Result (EngineParts × List Command) ℕ
+decode_list no_items = Ok (usual_engine, [])
+decode_list (item d ds) = option_map_or (λ engine. with_engine engine (decode_commands 2 ds)) (decode_engine d) (with_engine usual_engine (decode_commands 1 (item d ds)))
+
+-- the engine and the commands of a list; or the place of the first element that is no command, nor an
+-- engine at place 1, and 0 where the value is no list
+abbrev pub decode : Data → Result (EngineParts × List Command) ℕ
+decode d = option_map_or decode_list (as_array d) (Err 0)

@@ -1,4 +1,5 @@
 pub mod Decode
+pub mod DecodeEngine
 pub mod ItemCount
 pub mod Program
 pub mod Text

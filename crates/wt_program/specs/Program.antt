@@ -1,5 +1,5 @@
 -- What the program reads, and what it writes for it.
-use Rattle.std.specs.Prelude.{◌≡◌, ◌≢◌, ℕ, ◌^◌, ◌<◌, ◌≤◌, ◌⊎◌, List, length, take, true, Option, Some, None, Ok, Err, IsUtf8}
+use Rattle.std.specs.Prelude.{◌≡◌, ◌≢◌, ℕ, ◌^◌, ◌<◌, ◌≤◌, ◌⊎◌, List, length, take, Option, Some, None, Ok, Err, IsUtf8}
 use Rattle.serde_json.specs.Data.{Data}
 use Rattle.serde_json.specs.Read.{read}
 use Rattle.wt_env.specs.Limits.{EngineParts}
@@ -14,18 +14,9 @@ use Rattle.wt_session.specs.Session.{new_world}
 use Rattle.wt_program.specs.Decode.{decode}
 use Rattle.wt_program.specs.Text.{text_of}
 
--- the engine that a run has: number 1, with garbage collection and the usual limits
-abbrev pub usual_engine : EngineParts
-usual_engine = record {
-  number = 1;
-  limits = record { parties = 16; groups = 65536; types = 1048576; references = 16777216; ever = 1048576; holds = 1048576 };
-  gc = true;
-  profile = 1;
-}
-
--- what is written for commands: a line for each reply of a new session
-abbrev pub output_of : List Command → List ℕ
-output_of commands = text_of (replies_of (new_world usual_engine) commands)
+-- what is written for commands: a line for each reply of a new session of the engine
+abbrev pub output_of : EngineParts → List Command → List ℕ
+output_of engine commands = text_of (replies_of (new_world engine) commands)
 
 -- the bytes were all that was left, and are left no more
 pub record IsReadToEnd (bytes : List ℕ) (before after : Option (List ℕ)) : Type 0 where
@@ -41,23 +32,24 @@ pub record IsJson (bytes : List ℕ) (value : Data) : Type 0 where
 abbrev pub IsNotJson : List ℕ → Type 0
 IsNotJson bytes = IsUtf8 bytes → read bytes ≡ None
 
--- the bytes are a JSON list of these commands
-pub record Decodes (bytes : List ℕ) (commands : List Command) : Type 0 where
+-- the bytes are a JSON list of these commands for this engine
+pub record Decodes (bytes : List ℕ) (engine : EngineParts) (commands : List Command) : Type 0 where
   pub value : Data
   pub is_json : IsJson bytes value
-  pub is_decoded : decode value ≡ Ok commands
+  pub is_decoded : decode value ≡ Ok (engine, commands)
 
--- the bytes are JSON whose element with this number, from 1, is the first that is no command; or with 0, no list
+-- the bytes are JSON whose element with this number, from 1, is the first that is no command, nor an engine in the
+-- first place; or with 0, no list
 pub record IsBadAt (bytes : List ℕ) (place : ℕ) : Type 0 where
   pub value : Data
   pub is_json : IsJson bytes value
   pub is_bad : decode value ≡ Err place
 
--- the source was read to its end, and had these commands
-pub record HasCommands (before after : Option (List ℕ)) (commands : List Command) : Type 0 where
+-- the source was read to its end, and had these commands for this engine
+pub record HasCommands (before after : Option (List ℕ)) (engine : EngineParts) (commands : List Command) : Type 0 where
   pub bytes : List ℕ
   pub read_to_end : IsReadToEnd bytes before after
-  pub decodes : Decodes bytes commands
+  pub decodes : Decodes bytes engine commands
 
 -- the status of a run that read no commands
 abbrev pub status_for : InputRefusal → Status
@@ -74,10 +66,10 @@ IsCalm before after = Rose before after → ⊥
 -- what a run of the word `run` over these streams may answer, and what it leaves
 pub record Runs (status : Status) (left left' : Option (List ℕ)) (read_faults read_faults' : ℕ) (taken taken' : Option (List ℕ)) (write_faults write_faults' : ℕ) : Type 0 where
   -- all was read, decoded, done and written
-  pub done : status ≡ statuses.Done → (commands : List Command) × HasCommands left left' commands × IsAdded (output_of commands) taken taken'
+  pub done : status ≡ statuses.Done → (engine : EngineParts) × (commands : List Command) × HasCommands left left' engine commands × IsAdded (output_of engine commands) taken taken'
   -- a write failed after a front of the lines was written
   pub write_fault : status ≡ statuses.WriteFault → Rose write_faults write_faults'
-  pub partly : status ≡ statuses.WriteFault → (commands : List Command) × HasCommands left left' commands × (n : ℕ) × IsAdded (take n (output_of commands)) taken taken'
+  pub partly : status ≡ statuses.WriteFault → (engine : EngineParts) × (commands : List Command) × HasCommands left left' engine commands × (n : ℕ) × IsAdded (take n (output_of engine commands)) taken taken'
   -- a read failed
   pub read_fault : status ≡ statuses.ReadFault → Rose read_faults read_faults'
   -- more than 2^24 bytes were taken, or no more than that
@@ -93,5 +85,5 @@ pub record Runs (status : Status) (left left' : Option (List ℕ)) (read_faults 
 abbrev pub IsComplete : Status → Option (List ℕ) → ℕ → ℕ → ℕ → ℕ → Type 0
 IsComplete status left read_faults read_faults' write_faults write_faults' =
     IsCalm read_faults read_faults' → IsCalm write_faults write_faults'
-    → (bytes : List ℕ) (commands : List Command) → left ≡ Some bytes → length bytes ≤ 2 ^ 24 → Decodes bytes commands
+    → (bytes : List ℕ) (engine : EngineParts) (commands : List Command) → left ≡ Some bytes → length bytes ≤ 2 ^ 24 → Decodes bytes engine commands
     → (status ≡ statuses.Done) ⊎ (status ≡ statuses.OutOfMemory)

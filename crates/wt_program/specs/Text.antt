@@ -17,7 +17,7 @@ use Rattle.wt_model.specs.declared.handle_kind.HandleKind.TheVariants as kinds
 use Rattle.wt_session.specs.declared.reply.Refusal.{Refusal}
 use Rattle.wt_session.specs.declared.reply.Refusal.TheVariants as refusals
 use Rattle.wt_session.specs.declared.reply.Reply.{Reply}
-use Rattle.wt_session.specs.declared.reply.Reply.TheVariants.{TypeMade, Module, NoneFound, Owed, Dropped, Swept as SweptReply, Released, Live, Refused}
+use Rattle.wt_session.specs.declared.reply.Reply.TheVariants.{TypeMade, Module, NoneFound, Owed, Dropped, Swept as SweptReply, Released, Index, Live, Refused}
 
 abbrev pub line_feed : List ℕ
 line_feed = 10 ∷ []
@@ -57,6 +57,11 @@ abbrev pub no_such_handle_text : ℕ → HandleKind → ℕ → List ℕ
 no_such_handle_text party kind handle =
     codes "NoSuchHandle: party " ++ decimal party ++ codes " has no " ++ kind_word kind ++ codes " " ++ decimal handle
 
+-- `NoSuchHandle: party 0 has no type 1.2`
+abbrev pub no_such_type_text : ℕ → ℕ → ℕ → List ℕ
+no_such_type_text party handle ty =
+    codes "NoSuchHandle: party " ++ decimal party ++ codes " has no type " ++ decimal handle ++ codes "." ++ decimal ty
+
 abbrev pub rule_word : Rule → List ℕ
 rule_word Forward = codes "forward"
 rule_word Kind = codes "kind"
@@ -72,6 +77,7 @@ refusal_text (refusals.Full full) = full_text full
 refusal_text (refusals.InvalidModule place rule) = invalid_module_text place rule
 refusal_text refusals.NoGc = codes "NoGc: cannot define this type without a GC runtime enabled"
 refusal_text (refusals.NoSuchHandle party kind handle) = no_such_handle_text party kind handle
+refusal_text (refusals.NoSuchType party handle ty) = no_such_type_text party handle ty
 
 -- a line of one word
 abbrev pub word_line : List ℕ → List ℕ
@@ -101,6 +107,7 @@ line_of Owed = word_line (codes "owed")
 line_of Dropped = word_line (codes "dropped")
 line_of (SweptReply swept) = swept_line swept
 line_of Released = word_line (codes "released")
+line_of (Index index) = codes "index " ++ decimal index ++ line_feed
 line_of (Live groups) = live_line groups
 line_of (Refused refusal) = refused_line refusal
 

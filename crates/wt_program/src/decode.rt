@@ -1,14 +1,16 @@
-//! Commands from JSON: which commands a value stands for, or which element of it is none. It rests on
-//! what `serde_json` says of looking into a value.
+//! An engine and commands from JSON: which ones a value stands for, or which element of it is none. It rests
+//! on `decode_engine`, and on what `serde_json` says of looking into a value.
 
-ghost use Rattle.std.specs.Prelude.{◌≡◌, ℕ, ◌^◌, ◌<◌, List, length, Some, Ok, Err, IfOk};
+ghost use Rattle.std.specs.Prelude.{◌≡◌, ℕ, ◌^◌, ◌<◌, ◌≤◌, List, length, Some, Ok, Err, IfOk};
 ghost use Rattle.serde_json.specs.Read.{read};
 ghost use Rattle.serde_json.specs.View.{view, items_view};
 ghost use Rattle.wt_env.specs.Json.{each_of};
-ghost use Rattle.wt_program.specs.Decode.{own_key_count, decode_u32_at, decode_by, by_and_number, type_from, host_val, decode_val, decode_vals, func_from, decode_func, decode_sub, decode_live, decode_type, module_from, decode_module, decode_clone, decode_root, decode_drop, decode_sweep, decode_release, decode_command, decode_commands, decode};
+ghost use Rattle.wt_env.specs.Limits.{AreValid};
+ghost use Rattle.wt_program.specs.Decode.{own_key_count, decode_u32_at, decode_by, by_and_number, type_from, host_val, decode_val, decode_vals, func_from, decode_func, decode_sub, decode_live, decode_type, module_from, decode_module, decode_clone, decode_root, decode_drop, decode_sweep, decode_release, type_of_handle, type_of_module, decode_named_type, trampoline_from, decode_trampoline, decode_command, decode_commands, decode_list, decode};
 ghost use Rattle.wt_program.specs.declared.decode.DecodeError.{DecodeError};
 ghost use Rattle.wt_session.specs.World.{AreCommands};
 
+use crate::decode_engine::{decode_engine, usual_engine};
 use serde_json::Value;
 use std::alloc::{AllocFailed, Global};
 use std::error::Error;
@@ -16,16 +18,26 @@ use std::fmt;
 use wt_env::decode_groups::decode_groups;
 use wt_env::decode_values::decode_number;
 use wt_env::json::{decode_u32, key_count};
+use wt_env::limits::Engine;
 use wt_env::memory::OutOfMemory;
 use wt_env::seq::Seq;
 use wt_env::types::WasmValType;
-use wt_session::command::{Command, HostSub, HostVal};
+use wt_session::command::{Command, HostSub, HostVal, NamedType};
+
+/// What a list asks for: commands, and the engine of the session that they are done in.
+#[derive(Debug, Drop)]
+pub struct Input {
+    /// The engine that the first element of the list says, or the usual one.
+    pub engine: Engine,
+    /// The commands, in order.
+    pub commands: Vec<Command>,
+}
 
 /// Why no commands were decoded.
 #[derive(Clone, Copy, Debug, PartialEq, Eq)]
 pub enum DecodeError {
-    /// The first element of the list that is no command, by its place from 1; with 0, the value is no
-    /// list.
+    /// The first element of the list that is no command, nor an engine at place 1, by its place from 1; with
+    /// 0, the value is no list.
     BadCommand(u64),
     /// Memory ran out.
     OutOfMemory,
@@ -65,35 +77,73 @@ impl<T: Drop> From<AllocFailed<T>> for DecodeError {
     }
 }
 
-/// The commands of a list, in order. `BadCommand` tells the place of the first element that is no
-/// command, from 1, or with 0 that the value is no list. The commands of a text of fewer than 2^32 bytes
+/// The engine and the commands of a list, in order. The engine may stand as the first element, and is else the
+/// usual one; its limits are valid. `BadCommand` tells the place of the first element that is no command, nor
+/// an engine at place 1, or with 0 that the value is no list. The commands of a text of fewer than 2^32 bytes
 /// are ones that a session can run: their types refer to each other by module index, and a text has no
 /// more items than bytes.
-pub fn decode(alloc: Global, value: &Value) -> Result<Vec<Command>, DecodeError>
-    ensures ok { IfOk result (λ commands. decode (view value.now) ≡ Ok commands.items) }
-    ensures commands { IfOk result (λ commands. (bytes : List ℕ) → read bytes ≡ Some (view value.now)
-        → length bytes < 2 ^ 32 → AreCommands commands.items) }
+pub fn decode(alloc: Global, value: &Value) -> Result<Input, DecodeError>
+    ensures ok { IfOk result (λ input. decode (view value.now) ≡ Ok (input.engine, input.commands.items)) }
+    ensures engine { IfOk result (λ input. AreValid input.engine.limits) }
+    ensures commands { IfOk result (λ input. (bytes : List ℕ) → read bytes ≡ Some (view value.now)
+        → length bytes < 2 ^ 32 → AreCommands input.commands.items) }
     ensures bad { (k : _) → result ≡ Err (DecodeError.BadCommand k)
         → decode (view value.now) ≡ Err k }
 {
     match value.as_array() {
-        Some(list) => decode_commands(alloc, list.as_slice()),
+        Some(list) => decode_list(alloc, list.as_slice()),
         None => Err(DecodeError::BadCommand(0)),
     }
 }
 
-/// The commands that elements stand for, whose places begin at 1.
-fn decode_commands(alloc: Global, list: &[Value]) -> Result<Vec<Command>, DecodeError>
-    ensures ok { IfOk result (λ commands.
-        decode_commands 1 (items_view list.now) ≡ Ok commands.items) }
+/// The engine and the commands that elements stand for.
+fn decode_list(alloc: Global, list: &[Value]) -> Result<Input, DecodeError>
+    ensures ok { IfOk result (λ input.
+        decode_list (items_view list.now) ≡ Ok (input.engine, input.commands.items)) }
+    ensures engine { IfOk result (λ input. AreValid input.engine.limits) }
     ensures bad { (k : _) → result ≡ Err (DecodeError.BadCommand k)
-        → decode_commands 1 (items_view list.now) ≡ Err k }
+        → decode_list (items_view list.now) ≡ Err k }
+{
+    if list.is_empty() {
+        return Ok(Input {
+            engine: usual_engine(),
+            commands: Vec::new(alloc),
+        });
+    }
+    match decode_engine(&list[0]) {
+        Some(engine) => with_engine(engine, decode_commands(alloc, 2, &list[1..])),
+        None => with_engine(usual_engine(), decode_commands(alloc, 1, list)),
+    }
+}
+
+/// Commands for an engine.
+fn with_engine(
+    engine: Engine,
+    commands: Result<Vec<Command>, DecodeError>,
+) -> Result<Input, DecodeError>
+    ensures ok { IfOk result (λ input. (input.engine ≡ engine) × (commands ≡ Ok input.commands)) }
+    ensures engine { IfOk result (λ input. AreValid input.engine.limits) }
+    ensures err { (error : _) → result ≡ Err error → commands ≡ Err error }
+{
+    match commands {
+        Ok(commands) => Ok(Input { engine, commands }),
+        Err(error) => Err(error),
+    }
+}
+
+/// The commands that elements stand for, whose places begin at this one.
+fn decode_commands(alloc: Global, first: u64, list: &[Value]) -> Result<Vec<Command>, DecodeError>
+    requires { first ≤ 2 }
+    ensures ok { IfOk result (λ commands.
+        decode_commands first (items_view list.now) ≡ Ok commands.items) }
+    ensures bad { (k : _) → result ≡ Err (DecodeError.BadCommand k)
+        → decode_commands first (items_view list.now) ≡ Err k }
 {
     let mut commands = Vec::new(alloc);
     for (index, value) in list.iter().enumerate() {
         match decode_command(alloc, value)? {
             Some(command) => commands.push(command)?,
-            None => return Err(DecodeError::BadCommand(index as u64 + 1)),
+            None => return Err(DecodeError::BadCommand(first + index as u64)),
         }
     }
     Ok(commands)
@@ -112,6 +162,7 @@ fn decode_command(alloc: Global, value: &Value) -> Result<Option<Command>, OutOf
         Some("drop") => Ok(decode_drop(value)),
         Some("sweep") => Ok(decode_sweep(value)),
         Some("release") => Ok(decode_release(value)),
+        Some("trampoline") => Ok(decode_trampoline(value)),
         _ => Ok(None),
     }
 }
@@ -205,6 +256,58 @@ fn decode_release(value: &Value) -> Option<Command>
     ensures { result ≡ decode_release (view value.now) }
 {
     by_and_number(value, "handle").map(|(by, handle)| Command::Release { by, handle })
+}
+
+/// `{"do": "trampoline", "type": a type that is named}`.
+fn decode_trampoline(value: &Value) -> Option<Command>
+    ensures { result ≡ decode_trampoline (view value.now) }
+{
+    if own_key_count(value) != 2 {
+        return None;
+    }
+    let by = decode_by(value)?;
+    trampoline_from(by, value)
+}
+
+/// The command by this party.
+fn trampoline_from(by: u32, value: &Value) -> Option<Command>
+    ensures { result ≡ trampoline_from by (view value.now) }
+{
+    let ty = value.get("type").and_then(decode_named_type)?;
+    Some(Command::Trampoline { by, ty })
+}
+
+/// A type that is named by a handle.
+fn decode_named_type(value: &Value) -> Option<NamedType>
+    ensures { result ≡ decode_named_type (view value.now) }
+{
+    match value.get("type") {
+        Some(ty) => type_of_module(value, ty),
+        None => type_of_handle(value),
+    }
+}
+
+/// The type of a handle: `{"handle": a number}`.
+fn type_of_handle(value: &Value) -> Option<NamedType>
+    ensures { result ≡ type_of_handle (view value.now) }
+{
+    if key_count(value) != 1 {
+        return None;
+    }
+    let handle = decode_u32_at(value, "handle")?;
+    Some(NamedType::Handle(handle))
+}
+
+/// A type of a module: `{"handle": a number, "type": a number}`.
+fn type_of_module(value: &Value, ty: &Value) -> Option<NamedType>
+    ensures { result ≡ type_of_module (view value.now) (view ty.now) }
+{
+    if key_count(value) != 2 {
+        return None;
+    }
+    let handle = decode_u32_at(value, "handle")?;
+    let ty = decode_u32(ty)?;
+    Some(NamedType::OfModule { handle, ty })
 }
 
 /// The party and the number under this key, of an object with no other key but `do` and maybe `by`.
@@ -335,6 +438,10 @@ mod tests {
     use super::*;
     use std::test::Fail;
 
+    fn commands_of(alloc: Global, value: &Value) -> Result<Vec<Command>, DecodeError> {
+        decode(alloc, value).map(|input| input.commands)
+    }
+
     #[test]
     fn decodes_lists(rt: HostRuntime) -> Result<(), Fail> {
         let alloc = rt.alloc();
@@ -367,7 +474,7 @@ mod tests {
         ];
         for (text, want) in rows {
             let value = Value::from_str(alloc, text)?;
-            assert_eq!(rt; decode(alloc, &value), want, "at {text}");
+            assert_eq!(rt; commands_of(alloc, &value), want, "at {text}");
         }
         Ok(())
     }
@@ -395,11 +502,28 @@ mod tests {
                 r#"[{"do":"sweep","by":1,"handle":7}]"#,
                 Command::Sweep { by: 1, handle: 7 },
             ),
+            (
+                r#"[{"do":"trampoline","type":{"handle":3}}]"#,
+                Command::Trampoline {
+                    by: 0,
+                    ty: NamedType::Handle(3),
+                },
+            ),
+            (
+                r#"[{"type":{"type":2,"handle":4294967295},"by":1,"do":"trampoline"}]"#,
+                Command::Trampoline {
+                    by: 1,
+                    ty: NamedType::OfModule {
+                        handle: 4294967295,
+                        ty: 2,
+                    },
+                },
+            ),
         ];
         for (text, want) in rows {
             let value = Value::from_str(alloc, text)?;
             let commands = vec![in alloc; want]?;
-            assert_eq!(rt; decode(alloc, &value), Ok(commands), "at {text}");
+            assert_eq!(rt; commands_of(alloc, &value), Ok(commands), "at {text}");
         }
         Ok(())
     }
@@ -419,11 +543,22 @@ mod tests {
             r#"[{"do":"clone","handle":0,"index":0}]"#,
             r#"[{"do":"clone","by":-1,"handle":0}]"#,
             r#"[{"do":"Drop","handle":0}]"#,
+            r#"[{"do":"trampoline"}]"#,
+            r#"[{"do":"trampoline","type":0}]"#,
+            r#"[{"do":"trampoline","handle":0}]"#,
+            r#"[{"do":"trampoline","type":{}}]"#,
+            r#"[{"do":"trampoline","type":{"type":0}}]"#,
+            r#"[{"do":"trampoline","type":{"handle":4294967296}}]"#,
+            r#"[{"do":"trampoline","type":{"handle":0,"type":null}}]"#,
+            r#"[{"do":"trampoline","type":{"handle":0,"type":4294967296}}]"#,
+            r#"[{"do":"trampoline","type":{"handle":0,"x":0}}]"#,
+            r#"[{"do":"trampoline","type":{"handle":0,"type":0,"x":0}}]"#,
+            r#"[{"do":"trampoline","type":{"handle":0},"x":0}]"#,
         ];
         for text in rows {
             let value = Value::from_str(alloc, text)?;
             assert_eq!(rt;
-                decode(alloc, &value),
+                commands_of(alloc, &value),
                 Err(DecodeError::BadCommand(1)),
                 "at {text}"
             );

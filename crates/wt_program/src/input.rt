@@ -1,17 +1,17 @@
-//! What a source has: the commands of a JSON list, or why there are none.
+//! What a source has: the engine and the commands of a JSON list, or why there are none.
 
 ghost use Rattle.std.specs.Prelude.{◌≡◌, ◌≢◌, ℕ, ◌^◌, ◌<◌, ◌≤◌, List, length, IfOk, OnErr, Err, IsUtf8};
 ghost use Rattle.serde_json.specs.View.{view};
+ghost use Rattle.wt_env.specs.Limits.{AreValid};
 ghost use Rattle.wt_env.specs.Stream.{IsTaken, Rose};
 ghost use Rattle.wt_program.specs.Program.{IsReadToEnd, IsJson, IsNotJson, Decodes, IsBadAt, HasCommands};
 ghost use Rattle.wt_session.specs.World.{AreCommands};
 
-use crate::decode::{DecodeError, decode};
+use crate::decode::{DecodeError, Input, decode};
 use crate::read::{ReadRefusal, read_all};
 use serde_json::{Category, Value};
 use std::alloc::Global;
 use wt_env::stream::Source;
-use wt_session::command::Command;
 
 /// Why no commands were read.
 #[derive(Clone, Copy, Debug, PartialEq, Eq)]
@@ -22,7 +22,8 @@ pub enum InputRefusal {
     TooLong,
     /// The bytes are no JSON.
     NotJson,
-    /// The element with this number, from 1, is no command; or with 0, the value is no list.
+    /// The element with this number, from 1, is no command, nor an engine in the first place; or with 0, the
+    /// value is no list.
     BadCommand(u64),
     /// Memory ran out.
     OutOfMemory,
@@ -46,10 +47,11 @@ fn parse(alloc: Global, bytes: &[u8]) -> Result<Value, InputRefusal>
     }
 }
 
-/// The commands of a JSON text.
-fn commands_in(alloc: Global, bytes: &[u8]) -> Result<Vec<Command>, InputRefusal>
-    ensures ok { IfOk result (λ commands. Decodes bytes.now commands.items) }
-    ensures commands { length bytes.now < 2 ^ 32 → IfOk result (λ commands. AreCommands commands.items) }
+/// The engine and the commands of a JSON text.
+fn input_in(alloc: Global, bytes: &[u8]) -> Result<Input, InputRefusal>
+    ensures ok { IfOk result (λ input. Decodes bytes.now input.engine input.commands.items) }
+    ensures engine { IfOk result (λ input. AreValid input.engine.limits) }
+    ensures commands { length bytes.now < 2 ^ 32 → IfOk result (λ input. AreCommands input.commands.items) }
     ensures not_json { result ≡ Err InputRefusal.NotJson → IsNotJson bytes.now }
     ensures bad { (place : ℕ) → result ≡ Err (InputRefusal.BadCommand place) → IsBadAt bytes.now place }
     ensures no_fault { result ≢ Err InputRefusal.ReadFault }
@@ -57,16 +59,17 @@ fn commands_in(alloc: Global, bytes: &[u8]) -> Result<Vec<Command>, InputRefusal
 {
     let value = parse(alloc, bytes)?;
     match decode(alloc, &value) {
-        Ok(commands) => Ok(commands),
+        Ok(input) => Ok(input),
         Err(DecodeError::BadCommand(place)) => Err(InputRefusal::BadCommand(place)),
         Err(DecodeError::OutOfMemory) => Err(InputRefusal::OutOfMemory),
     }
 }
 
 /// Reads a source to its end, and decodes what it had.
-pub fn read_commands<S: Source>(alloc: Global, source: &mut S) -> Result<Vec<Command>, InputRefusal>
-    ensures ok { IfOk result (λ commands. HasCommands (S.left source.old) (S.left source.new) commands.items) }
-    ensures commands { IfOk result (λ commands. AreCommands commands.items) }
+pub fn read_input<S: Source>(alloc: Global, source: &mut S) -> Result<Input, InputRefusal>
+    ensures ok { IfOk result (λ input. HasCommands (S.left source.old) (S.left source.new) input.engine input.commands.items) }
+    ensures engine { IfOk result (λ input. AreValid input.engine.limits) }
+    ensures commands { IfOk result (λ input. AreCommands input.commands.items) }
     ensures fault { result ≡ Err InputRefusal.ReadFault → Rose (S.faults source.old) (S.faults source.new) }
     ensures too_long { result ≡ Err InputRefusal.TooLong
         → ((bytes : List ℕ) × IsTaken bytes (S.left source.old) (S.left source.new) × (2 ^ 24 < length bytes)) }
@@ -79,7 +82,7 @@ pub fn read_commands<S: Source>(alloc: Global, source: &mut S) -> Result<Vec<Com
     ensures count { S.faults source.old ≤ S.faults source.new }
 {
     match read_all(alloc, source) {
-        Ok(bytes) => commands_in(alloc, bytes.as_slice()),
+        Ok(bytes) => input_in(alloc, bytes.as_slice()),
         Err(ReadRefusal::Fault) => Err(InputRefusal::ReadFault),
         Err(ReadRefusal::TooLong) => Err(InputRefusal::TooLong),
         Err(ReadRefusal::OutOfMemory) => Err(InputRefusal::OutOfMemory),

@@ -3,6 +3,7 @@
 #![tactic(auto)]
 
 mod decode;
+mod decode_engine;
 mod input;
 mod read;
 mod run;

@@ -6,28 +6,27 @@ ghost use Rattle.wt_program.specs.Words.{IsRun};
 ghost use Rattle.wt_program.specs.Program.{output_of, status_for, Runs, IsComplete, IsReadToEnd, IsNotJson, Decodes, IsBadAt, HasCommands};
 ghost use Rattle.wt_session.specs.World.{AreCommands};
 
-use crate::input::{InputRefusal, read_commands};
+use crate::decode::Input;
+use crate::input::{InputRefusal, read_input};
 use crate::text::text;
 use crate::words::is_run;
 use crate::write::write_all;
 use std::alloc::Global;
-use wt_env::limits::{Engine, EngineLimits};
 use wt_env::memory::OutOfMemory;
 use wt_env::status::Status;
 use wt_env::stream::{Sink, Source};
 use wt_env::text::Text;
-use wt_session::command::Command;
 use wt_session::run::run_session;
 use wt_session::session::Session;
 
-/// The lines for commands, each done by a new session.
-fn output(alloc: Global, commands: &[Command]) -> Result<String, OutOfMemory>
-    requires { AreCommands commands.now }
-    ensures { IfOk result (λ text. string_bytes text ≡ output_of commands.now) }
+/// The lines for commands, done in order by a new session of their engine.
+fn output(alloc: Global, input: &Input) -> Result<String, OutOfMemory>
+    requires { AreCommands input.now.commands.items }
+    ensures { IfOk result (λ text. string_bytes text ≡ output_of input.now.engine input.now.commands.items) }
 {
-    let mut session = Session::new(alloc, Engine::new(1, EngineLimits::USUAL, true));
+    let mut session = Session::new(alloc, input.engine);
     let mut replies = Vec::new(alloc);
-    let outcome = run_session(&mut session, commands, &mut replies);
+    let outcome = run_session(&mut session, input.commands.as_slice(), &mut replies);
     session.close();
     outcome?;
     text(alloc, replies.as_slice())
@@ -46,17 +45,18 @@ fn status_of(refusal: InputRefusal) -> Status
     }
 }
 
-/// Does commands in a new session, and writes a line for each reply.
-fn answer<K: Sink>(alloc: Global, commands: &[Command], sink: &mut K) -> Status
-    requires { AreCommands commands.now }
-    ensures done { result ≡ Status.Done → IsAdded (output_of commands.now) (K.taken sink.old) (K.taken sink.new) }
+/// Does commands in a new session of their engine, and writes a line for each reply.
+fn answer<K: Sink>(alloc: Global, input: &Input, sink: &mut K) -> Status
+    requires { AreCommands input.now.commands.items }
+    ensures done { result ≡ Status.Done
+        → IsAdded (output_of input.now.engine input.now.commands.items) (K.taken sink.old) (K.taken sink.new) }
     ensures write_fault { result ≡ Status.WriteFault → Rose (K.faults sink.old) (K.faults sink.new) }
     ensures partly { result ≡ Status.WriteFault
-        → ((n : ℕ) × IsAdded (take n (output_of commands.now)) (K.taken sink.old) (K.taken sink.new)) }
+        → ((n : ℕ) × IsAdded (take n (output_of input.now.engine input.now.commands.items)) (K.taken sink.old) (K.taken sink.new)) }
     ensures unwritten { result ≡ Status.OutOfMemory → K.taken sink.new ≡ K.taken sink.old }
     ensures only { (result ≡ Status.Done) ⊎ (result ≡ Status.WriteFault) ⊎ (result ≡ Status.OutOfMemory) }
 {
-    match output(alloc, commands) {
+    match output(alloc, input) {
         Ok(text) => match write_all(sink, text.as_bytes()) {
             Ok(()) => Status::Done,
             Err(_) => Status::WriteFault,
@@ -71,15 +71,16 @@ fn run_commands<S: Source, K: Sink>(alloc: Global, source: &mut S, sink: &mut K)
         (K.taken sink.old) (K.taken sink.new) (K.faults sink.old) (K.faults sink.new) }
     ensures not_usage { result ≢ Status.Usage }
 {
-    match read_commands(alloc, source) {
-        Ok(commands) => answer(alloc, commands.as_slice(), sink),
+    match read_input(alloc, source) {
+        Ok(input) => answer(alloc, &input, sink),
         Err(refusal) => status_of(refusal),
     }
 }
 
 /// Does all that the program does. The one command is the word `run`: it reads a JSON list of commands
-/// from the source, does them in a new session of the usual engine, and writes a line for each reply to
-/// the sink. Decoding comes before any command, and writing after all.
+/// from the source, does them in a new session, and writes a line for each reply to the sink. The session's
+/// engine is the one that the list's first element says, and else the usual one. Decoding comes before any
+/// command, and writing after all.
 ///
 /// `Usage` comes exactly on other words. Want of memory is the one answer that no clause ties to a cause.
 pub fn run<S: Source, K: Sink>(

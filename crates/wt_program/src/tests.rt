@@ -270,6 +270,60 @@ const HANDLES_ON_MODULES: (&str, &str) = (
     "module 0 indices\nrefused NoSuchHandle: party 0 has no type 0\nrefused NoSuchHandle: party 1 has no module 0\nreleased\nrefused NoSuchHandle: party 0 has no module 0\nrefused NoSuchHandle: party 0 has no debt 0\n",
 );
 
+/// Equal groups have one trampoline, which is registered before them and leaves with the last of them.
+const TRAMPOLINE_OF_TWO: (&str, &str) = (
+    r#"[
+        {"do":"module","groups":[[{"func":[[{"ref":{"func":1}}],[]]},{"func":[[{"ref":{"func":0}}],[]]}]]},
+        {"do":"module","groups":[[{"func":[[{"ref":{"func":1}}],[]]},{"func":[[{"ref":{"func":0}}],[]]}]]},
+        {"do":"trampoline","type":{"handle":0,"type":0}},
+        {"do":"live"},
+        {"do":"release","handle":0},
+        {"do":"release","handle":1},
+        {"do":"live"}
+    ]"#,
+    "module 0 indices 1 2\nmodule 1 indices 1 2\nindex 0\nlive 2 #1[0] #2[1 2]\nreleased\nreleased\nlive 0\n",
+);
+
+/// A function over numbers is its own trampoline, by a handle on it and in a module.
+const OWN_TRAMPOLINE: (&str, &str) = (
+    r#"[
+        {"do":"type","sub":{"func":[["i32"],[]]}},
+        {"do":"module","groups":[[{"func":[["i64"],[]]},{"func":[["i32"],[]]}]]},
+        {"do":"trampoline","type":{"handle":0}},
+        {"do":"trampoline","type":{"handle":1,"type":1}}
+    ]"#,
+    "type 0 index 0\nmodule 1 indices 1 2\nindex 0\nindex 2\n",
+);
+
+/// What is named is a function that the party has.
+const NO_TRAMPOLINE: (&str, &str) = (
+    r#"[
+        {"do":"trampoline","type":{"handle":0}},
+        {"do":"trampoline","by":1,"type":{"handle":0,"type":3}},
+        {"do":"module","groups":[[{"struct":[]}]]},
+        {"do":"root","index":0},
+        {"do":"trampoline","type":{"handle":0}},
+        {"do":"trampoline","type":{"handle":0,"type":0}},
+        {"do":"trampoline","type":{"handle":0,"type":1}},
+        {"do":"trampoline","type":{"handle":1}},
+        {"do":"trampoline","type":{"handle":1,"type":0}},
+        {"do":"trampoline","by":1,"type":{"handle":0}},
+        {"do":"trampoline","by":16,"type":{"handle":0}}
+    ]"#,
+    "refused NoSuchHandle: party 0 has no type 0\nrefused NoSuchHandle: party 1 has no type 0.3\nmodule 0 indices 0\ntype 1 index 0\nrefused NoSuchHandle: party 0 has no type 0\nrefused NoSuchHandle: party 0 has no type 0.0\nrefused NoSuchHandle: party 0 has no type 0.1\nrefused NoSuchHandle: party 0 has no type 1\nrefused NoSuchHandle: party 0 has no type 1.0\nrefused NoSuchHandle: party 1 has no type 0\nrefused Full: parties 16, wanted 17\n",
+);
+
+#[test]
+fn answers_on_trampolines(rt: HostRuntime) -> Result<(), Fail> {
+    let rows = [TRAMPOLINE_OF_TWO, OWN_TRAMPOLINE, NO_TRAMPOLINE];
+    for (input, output) in rows {
+        let (answered, written) = outcome(rt.alloc(), "run", input, &[], &[])?;
+        assert_eq!(rt; answered, Status::Done, "on {input}");
+        assert_eq!(rt; written.as_slice(), output.as_bytes(), "on {input}");
+    }
+    Ok(())
+}
+
 #[test]
 fn answers_on_modules(rt: HostRuntime) -> Result<(), Fail> {
     let rows = [
@@ -281,6 +335,7 @@ fn answers_on_modules(rt: HostRuntime) -> Result<(), Fail> {
         ONE_GROUP_TWICE,
         ONE_MEMBER_TWICE,
         HANDLES_ON_MODULES,
+        FUNCTIONS_OVER_REFERENCES,
     ];
     for (input, output) in rows {
         let (answered, written) = outcome(rt.alloc(), "run", input, &[], &[])?;
@@ -309,12 +364,102 @@ fn refuses_other_modules(rt: HostRuntime) -> Result<(), Fail> {
     Ok(())
 }
 
+/// A function of a module takes and returns references too.
+const FUNCTIONS_OVER_REFERENCES: (&str, &str) = (
+    r#"[
+        {"do":"module","groups":[[{"struct":[]}],[{"func":[[{"ref":{"struct":0}},"i32"],[{"null":{"func":1}}]]}]]},
+        {"do":"live"},
+        {"do":"release","handle":0},
+        {"do":"live"}
+    ]"#,
+    "module 0 indices 0 2\nlive 3 #1[0] #2[1] #3[2]\nreleased\nlive 0\n",
+);
+
+/// An engine may stand as the first element, and then its limits hold and its garbage collection.
+#[test]
+fn answers_by_the_engine(rt: HostRuntime) -> Result<(), Fail> {
+    let rows = [
+        (r#"[{"engine":{}}]"#, ""),
+        (
+            r#"[{"engine":{"profile":1,"gc":true,"limits":{}}},{"do":"live"}]"#,
+            "live 0\n",
+        ),
+        (
+            r#"[{"engine":{"limits":{"parties":1}}},{"do":"live","by":1}]"#,
+            "refused Full: parties 1, wanted 2\n",
+        ),
+        (
+            r#"[{"engine":{"limits":{"parties":1024,"groups":16777216,"types":268435456,"references":1073741824,"ever":16777216,"holds":1073741824}}},{"do":"live","by":1024}]"#,
+            "refused Full: parties 1024, wanted 1025\n",
+        ),
+        (
+            r#"[{"engine":{"limits":{"groups":0}}},{"do":"type","sub":{"func":[[],[]]}}]"#,
+            "refused Full: groups 0, wanted 1\n",
+        ),
+        (
+            r#"[{"engine":{"gc":false}},{"do":"module","groups":[[{"struct":[]}]]}]"#,
+            "refused NoGc: cannot define this type without a GC runtime enabled\n",
+        ),
+        (
+            r#"[{"engine":{"limits":{"holds":1}}},{"do":"type","sub":{"func":[[],[]]}},{"do":"clone","handle":0}]"#,
+            "type 0 index 0\nrefused Full: holds 1, wanted 2\n",
+        ),
+    ];
+    for (input, output) in rows {
+        let (answered, written) = outcome(rt.alloc(), "run", input, &[], &[])?;
+        assert_eq!(rt; answered, Status::Done, "on {input}");
+        assert_eq!(rt; written.as_slice(), output.as_bytes(), "on {input}");
+    }
+    Ok(())
+}
+
+#[test]
+fn refuses_other_engines(rt: HostRuntime) -> Result<(), Fail> {
+    let rows = [
+        (r#"[{"engine":{"limits":{"parties":1025}}}]"#, 1),
+        (r#"[{"engine":{"limits":{"groups":16777217}}}]"#, 1),
+        (r#"[{"engine":{"limits":{"types":268435457}}}]"#, 1),
+        (r#"[{"engine":{"limits":{"references":1073741825}}}]"#, 1),
+        (r#"[{"engine":{"limits":{"ever":16777217}}}]"#, 1),
+        (r#"[{"engine":{"limits":{"holds":1073741825}}}]"#, 1),
+        (
+            r#"[{"engine":{"limits":{"holds":18446744073709551616}}}]"#,
+            1,
+        ),
+        (r#"[{"engine":{"limits":{"ever":-1}}}]"#, 1),
+        (r#"[{"engine":{"limits":{"ever":1.0}}}]"#, 1),
+        (r#"[{"engine":{"limits":{"ever":null}}}]"#, 1),
+        (r#"[{"engine":{"limits":{"handles":1}}}]"#, 1),
+        (r#"[{"engine":{"limits":[]}}]"#, 1),
+        (r#"[{"engine":{"limits":null}}]"#, 1),
+        (r#"[{"engine":{"gc":null}}]"#, 1),
+        (r#"[{"engine":{"gc":1}}]"#, 1),
+        (r#"[{"engine":{"profile":2}}]"#, 1),
+        (r#"[{"engine":{"profile":"1"}}]"#, 1),
+        (r#"[{"engine":{"x":1}}]"#, 1),
+        (r#"[{"engine":{"gc":true,"x":1}}]"#, 1),
+        (r#"[{"engine":{},"do":"live"}]"#, 1),
+        (r#"[{"engine":7}]"#, 1),
+        (r#"[{"engine":null}]"#, 1),
+        (r#"[{"engine":{}},7]"#, 2),
+        (r#"[{"engine":{}},{"engine":{}}]"#, 2),
+        (r#"[{"do":"live"},{"engine":{}}]"#, 2),
+        (r#"[{"engine":{}},{"do":"live"},{"do":"love"}]"#, 3),
+    ];
+    for (input, place) in rows {
+        let (answered, written) = outcome(rt.alloc(), "run", input, &[], &[])?;
+        assert_eq!(rt; answered, Status::BadCommand(place), "on {input}");
+        assert_eq!(rt; written.as_slice(), "".as_bytes(), "on {input}");
+    }
+    Ok(())
+}
+
 /// Without garbage collection a module has functions alone.
 #[test]
 fn refuses_structs_without_gc(rt: HostRuntime) -> Result<(), Fail> {
     let alloc = rt.alloc();
     let text = r#"[{"do":"module","groups":[[{"func":[[],[]]}],[{"struct":[]}]]},{"do":"live"}]"#;
-    let commands = decode(alloc, &Value::from_str(alloc, text)?)?;
+    let commands = decode(alloc, &Value::from_str(alloc, text)?)?.commands;
     let mut replies = Vec::new(alloc);
     let mut session = Session::new(alloc, Engine::new(1, EngineLimits::USUAL, false));
     assert!(rt; are_commands(commands.as_slice()));

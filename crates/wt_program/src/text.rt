@@ -2,7 +2,7 @@
 
 ghost use Rattle.std.specs.Prelude.{◌≡◌, ◌++◌, IfOk, OnOk, string_bytes};
 ghost use Rattle.std.specs.List.{flat_map};
-ghost use Rattle.wt_program.specs.Text.{limit_word, indices_text, group_text, word_line, swept_line, live_line, full_text, kind_word, no_such_handle_text, rule_word, invalid_module_text, later_index_text, module_line, refusal_text, refused_line, line_of, text_of};
+ghost use Rattle.wt_program.specs.Text.{limit_word, indices_text, group_text, word_line, swept_line, live_line, full_text, kind_word, no_such_handle_text, no_such_type_text, rule_word, invalid_module_text, later_index_text, module_line, refusal_text, refused_line, line_of, text_of};
 
 use std::alloc::Global;
 use wt_env::limits::Limit;
@@ -30,6 +30,13 @@ fn push_made(text: &mut String, handle: u64, index: u32) -> Result<(), OutOfMemo
     ensures { OnOk result (string_bytes text.new ≡ string_bytes text.old ++ line_of (Reply.TypeMade handle index)) }
 {
     writeln!(text, "type {handle} index {index}")?;
+    Ok(())
+}
+
+fn push_index(text: &mut String, index: u32) -> Result<(), OutOfMemory>
+    ensures { OnOk result (string_bytes text.new ≡ string_bytes text.old ++ line_of (Reply.Index index)) }
+{
+    writeln!(text, "index {index}")?;
     Ok(())
 }
 
@@ -81,6 +88,16 @@ fn push_no_such_handle(
 {
     let kind = kind_word(kind);
     write!(text, "NoSuchHandle: party {party} has no {kind} {handle}")?;
+    Ok(())
+}
+
+fn push_no_such_type(text: &mut String, party: u32, handle: u32, ty: u32) -> Result<(), OutOfMemory>
+    ensures { OnOk result (string_bytes text.new ≡ string_bytes text.old ++ no_such_type_text party handle ty) }
+{
+    write!(
+        text,
+        "NoSuchHandle: party {party} has no type {handle}.{ty}"
+    )?;
     Ok(())
 }
 
@@ -173,6 +190,9 @@ fn push_refusal(text: &mut String, refusal: &Refusal) -> Result<(), OutOfMemory>
             kind,
             handle,
         } => push_no_such_handle(text, *party, *kind, *handle),
+        Refusal::NoSuchType { party, handle, ty } => {
+            push_no_such_type(text, *party, *handle, *ty)
+        }
     }
 }
 
@@ -197,6 +217,7 @@ fn push_line(text: &mut String, reply: &Reply) -> Result<(), OutOfMemory>
         Reply::Dropped => push_word(text, "dropped"),
         Reply::Swept(swept) => push_swept(text, *swept),
         Reply::Released => push_word(text, "released"),
+        Reply::Index(index) => push_index(text, *index),
         Reply::Live(groups) => push_live(text, groups.as_slice()),
         Reply::Refused(refusal) => push_refused(text, refusal),
     }

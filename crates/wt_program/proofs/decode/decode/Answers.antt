@@ -6,5 +6,5 @@ use Rattle.wt_program.proofs.decode.decode.Goals as goal
 
 pub returns-in-Some-clause-commands : goal.returns-in-Some-clause-commands
 returns-in-Some-clause-commands c =
-    let is : IfOk c.decode_commands.result (λ commands. decode (view c.args.value.now) ≡ Ok commands.items) = search rules in
-    commands_of_text c.decode_commands.result (view c.args.value.now) is
+    let is : IfOk c.decode_list.result (λ input. decode (view c.args.value.now) ≡ Ok (input.engine, input.commands.items)) = search rules in
+    commands_of_text c.decode_list.result (view c.args.value.now) is

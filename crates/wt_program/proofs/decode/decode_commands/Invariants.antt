@@ -6,4 +6,4 @@ use Rattle.wt_program.proofs.decode.decode_commands.Given as goal
 
 -- the commands of the elements so far stand before those of the others
 abbrev pub invariant-loop-index : goal.invariant-loop-index
-invariant-loop-index l = decode_commands 1 (items_view l.list) ≡ result_map_both (λ rest. l.commands.items ++ rest) (λ place. place) (decode_commands (l.index + 1) (items_view (drop l.index l.list)))
+invariant-loop-index l = decode_commands l.fn.first (items_view l.list) ≡ result_map_both (λ rest. l.commands.items ++ rest) (λ place. place) (decode_commands (l.fn.first + l.index) (items_view (drop l.index l.list)))
