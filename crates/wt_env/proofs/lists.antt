@@ -1,3 +1,4 @@
+pub mod Filtered
 pub mod Found
 pub mod Mapped
 pub mod Members

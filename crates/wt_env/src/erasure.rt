@@ -38,7 +38,7 @@ impl WasmHeapType {
     }
 
     /// Whether the type is the top of its hierarchy.
-    fn is_top(&self) -> bool
+    pub fn is_top(&self) -> bool
         ensures { result ≡ top_test self.now }
     {
         matches!(

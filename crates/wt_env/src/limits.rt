@@ -34,17 +34,27 @@ impl EngineLimits {
         holds: 1_048_576,
     };
 
+    /// The greatest value of each limit.
+    pub const GREATEST: EngineLimits = EngineLimits {
+        parties: 1024,
+        groups: 1 << 24,
+        types: 1 << 28,
+        references: 1 << 30,
+        ever: 1 << 24,
+        holds: 1 << 30,
+    };
+
     /// Whether no limit passes its greatest value: 1,024 parties, 2^24 groups, 2^28 types,
     /// 2^30 references, 2^24 registration numbers, 2^30 holds.
     pub fn valid(&self) -> bool
         ensures { IsTrue result ↔ AreValid self.now }
     {
-        self.parties <= 1024
-            && self.groups <= 1 << 24
-            && self.types <= 1 << 28
-            && self.references <= 1 << 30
-            && self.ever <= 1 << 24
-            && self.holds <= 1 << 30
+        self.parties <= Self::GREATEST.parties
+            && self.groups <= Self::GREATEST.groups
+            && self.types <= Self::GREATEST.types
+            && self.references <= Self::GREATEST.references
+            && self.ever <= Self::GREATEST.ever
+            && self.holds <= Self::GREATEST.holds
     }
 }
 

@@ -1,9 +1,11 @@
 //! The data of core types, as WebAssembly 3.0 has them (section "Types"), with the names of
 //! wasmtime's environment. Everything here is compared and hashed by its contents.
 
-ghost use Rattle.std.specs.Prelude.{◌≡◌, ◌↔◌, IsTrue};
+ghost use Rattle.std.specs.Prelude.{◌≡◌, ◌↔◌, [], ◌∷◌, IsTrue, IfOk};
 
+use crate::memory::OutOfMemory;
 use crate::seq::Seq;
+use std::alloc::Global;
 
 /// The index of a type that an engine has registered.
 #[derive(Clone, Copy, Debug, PartialEq, Eq, Hash)]
@@ -171,6 +173,15 @@ pub struct WasmRecGroup {
 }
 
 impl WasmRecGroup {
+    /// The group of one type.
+    pub fn alone(alloc: Global, ty: WasmSubType) -> Result<WasmRecGroup, OutOfMemory>
+        ensures { IfOk result (λ group. group.types ≡ ty ∷ []) }
+    {
+        Ok(WasmRecGroup {
+            types: Seq::one(alloc, ty)?,
+        })
+    }
+
     /// Whether the two are the same group, member by member. `==` answers the same.
     #[tactic(auto, using(crate::specs::Equality::equality))]
     pub fn is_same(&self, other: &WasmRecGroup) -> bool
@@ -190,8 +201,6 @@ pub struct ModuleTypes {
 #[cfg(test)]
 mod tests {
     use super::*;
-    use crate::memory::OutOfMemory;
-    use std::alloc::Global;
     use std::collections::HashMap;
     use std::test::Fail;
 
@@ -210,9 +219,7 @@ mod tests {
             supertype: None,
             composite_type: WasmCompositeInnerType::Func(func),
         };
-        Ok(WasmRecGroup {
-            types: Seq::one(alloc, ty)?,
-        })
+        WasmRecGroup::alone(alloc, ty)
     }
 
     #[test]
