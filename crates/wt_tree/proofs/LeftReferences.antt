@@ -100,7 +100,7 @@ among_joined {A} (y ∷ xs) ys x (inr later) = by (among_joined xs ys x later)
     by (inl there) = inl (inr there)
     by (inr there) = inr there
 
-among_flat_map : {A B : Type 0} (f : A → List B) (xs : List A) (y : B) → Among y (flat_map f xs) → (x : A) × Among x xs × Among y (f x)
+pub among_flat_map : {A B : Type 0} (f : A → List B) (xs : List A) (y : B) → Among y (flat_map f xs) → (x : A) × Among x xs × Among y (f x)
 among_flat_map f [] y at = absurd at
 among_flat_map {A} f (x ∷ xs) y at = by (among_joined (f x) (flat_map f xs) y at) (among_flat_map f xs y)
   where

@@ -16,6 +16,21 @@ use Rattle.wt_env.specs.declared.types.WasmSubType.{WasmSubType}
 use Rattle.wt_tree.specs.References.{index_refs, heap_refs, val_refs, vals_refs, storage_refs, fields_refs, shape_refs, super_refs, sub_refs, group_refs, number_index, number_heap, number_val, number_vals, number_storage, number_field, number_fields, number_shape, number_sub, number_group_from, number_group}
 use Rattle.wt_tree.specs.MapRefs.{map_heap_refs, map_val_refs, map_vals_refs, map_storage_refs, map_field_refs, map_fields_refs, map_shape_refs, map_sub_refs, map_group_refs, fill_index, fill_group}
 
+-- a value type has one reference at most, and so its numbering is a change of its references
+number_heap-mapped : (n : ℕ) (h : WasmHeapType) → number_heap n h ≡ map_heap_refs (number_index n) h
+number_heap-mapped n (heap.ConcreteFunc i) = refl
+number_heap-mapped n (heap.ConcreteArray i) = refl
+number_heap-mapped n (heap.ConcreteStruct i) = refl
+number_heap-mapped n (heap.ConcreteExn i) = refl
+number_heap-mapped n (heap.ConcreteCont i) = refl
+number_heap-mapped n _ = refl
+
+pub number_val-mapped : (n : ℕ) (v : WasmValType) → number_val n v ≡ map_val_refs (number_index n) v
+number_val-mapped n (val.Ref r) = let changed = number_heap-mapped n r.heap_type in λ i. val.Ref (record r { heap_type = changed i })
+number_val-mapped n _ = refl
+
+-- ---- filled back
+
 -- from place n on, f fills in these references
 abbrev Fills : (EngineOrModuleTypeIndex → EngineOrModuleTypeIndex) → ℕ → List EngineOrModuleTypeIndex → Type 0
 Fills f n [] = Unit {0}

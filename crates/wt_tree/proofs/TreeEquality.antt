@@ -5,7 +5,7 @@ use Rattle.std.specs.Cmp.{first_so, second_so, unsigned_Decides}
 use Rattle.wt_env.specs.Equality.{sub_types_eq, sub_types_eq-exact, sub_types_eq-refl}
 use Rattle.wt_tree.specs.Tree.{Tree, Outer, group, none, outer, tree_eq, outer_eq}
 
-both : {s t : Bool} → s ≡ true → t ≡ true → (s && t) ≡ true
+pub both : {s t : Bool} → s ≡ true → t ≡ true → (s && t) ≡ true
 both p q = λ i. p i && q i
 
 mutual

@@ -1,7 +1,11 @@
 pub mod Canonical
+pub mod Fit
+pub mod Kinds
 pub mod ModuleTree
 pub mod NumberFunction
 pub mod MapRefs
 pub mod References
+pub mod PlainTypes
+pub mod Subtyping
 pub mod Tree
 pub mod Trampoline

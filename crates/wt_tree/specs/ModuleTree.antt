@@ -8,10 +8,7 @@ use Rattle.wt_env.specs.declared.types.WasmRecGroup.{WasmRecGroup}
 use Rattle.wt_tree.specs.Canonical.{own_index}
 use Rattle.wt_tree.specs.MapRefs.{map_group_refs}
 use Rattle.wt_tree.specs.References.{group_refs, number_group}
-use Rattle.wt_tree.specs.Tree.{Tree, Outer, ClosedTree, group, none, outer}
-
-abbrev pub no_tree : ClosedTree
-no_tree = record { tree = group [] none; place = 0 }
+use Rattle.wt_tree.specs.Tree.{Tree, Outer, ClosedTree, group, none, outer, no_tree}
 
 -- the closed tree that a reference to an earlier type names
 abbrev pub known_tree : List ClosedTree → EngineOrModuleTypeIndex → ClosedTree

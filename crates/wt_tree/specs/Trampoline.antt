@@ -1,12 +1,12 @@
 -- Trampolines: the erased form of a function type, by which a caller that knows nothing of its references enters it
 -- (after wasmtime's environment).
-use Rattle.std.specs.Prelude.{ℕ, Bool, true, false, ◌&&◌, is_none, List, [], ◌∷◌, slice_get, if◌then◌else◌, Option, Some, None, option_map, option_and_then}
+use Rattle.std.specs.Prelude.{Bool, true, false, ◌&&◌, is_none, [], ◌∷◌, slice_get, if◌then◌else◌, Option, Some, None, option_map, option_and_then}
 use Rattle.wt_env.specs.Erasure.{erase, is_erased}
 use Rattle.wt_env.specs.declared.types.WasmFuncType.{WasmFuncType}
 use Rattle.wt_env.specs.declared.types.WasmCompositeInnerType.{WasmCompositeInnerType}
 use Rattle.wt_env.specs.declared.types.WasmCompositeInnerType.TheVariants as shape
 use Rattle.wt_env.specs.declared.types.WasmSubType.{WasmSubType}
-use Rattle.wt_tree.specs.Tree.{Tree, ClosedTree, Description, group, none}
+use Rattle.wt_tree.specs.Tree.{Tree, ClosedTree, Description, group, none, members_of}
 
 -- the one member of the group of a function type's trampoline: final, with no supertype, and erased
 abbrev pub trampoline_member : WasmFuncType → WasmSubType
@@ -42,10 +42,6 @@ is_own_trampoline t = t.is_final && is_none t.supertype && is_erased_shape t.com
 -- the trampoline of a function that isn't its own, as the member of a group of its own
 abbrev pub other_trampoline : WasmSubType → Option WasmSubType
 other_trampoline t = if is_own_trampoline t then None else trampoline_of_shape t.composite_type
-
--- the members of a tree
-abbrev pub members_of : Tree → List WasmSubType
-members_of (group members leaving) = members
 
 -- the trampoline of a closed tree, whose member this is: itself, or the first member of the trampoline's own group
 abbrev pub trampoline_at : ClosedTree → WasmSubType → Option ClosedTree

@@ -25,6 +25,14 @@ pub record ClosedTree : Type 0 where
   pub tree : Tree
   pub place : ℕ
 
+-- what stands for a type that isn't there
+abbrev pub no_tree : ClosedTree
+no_tree = record { tree = group [] none; place = 0 }
+
+-- the members of a tree
+abbrev pub members_of : Tree → List WasmSubType
+members_of (group members leaving) = members
+
 -- each reference that leaves the group, as the closed tree that it names
 abbrev pub close_outer : (ℕ → Tree) → List (ℕ × ℕ) → Outer
 close_outer trees [] = none
