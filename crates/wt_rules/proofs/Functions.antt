@@ -5,7 +5,8 @@ use Rattle.wt_env.specs.declared.types.WasmCompositeInnerType.{WasmCompositeInne
 use Rattle.wt_env.specs.declared.types.WasmCompositeInnerType.TheVariants as shape
 use Rattle.wt_env.specs.declared.types.WasmSubType.{WasmSubType}
 use Rattle.wt_tree.specs.NumberFunction.{is_over_numbers, is_number_function}
-use Rattle.wt_rules.specs.Rules.{kind_of, is_function_kind, is_function}
+use Rattle.wt_tree.specs.Kinds.{kind_of}
+use Rattle.wt_rules.specs.Rules.{is_function_kind, is_function}
 
 last : (a b c : Bool) → (a && b && c) ≡ true → c ≡ true
 last true true c h = h

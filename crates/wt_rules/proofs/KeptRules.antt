@@ -1,13 +1,12 @@
--- What follows where no rule is broken, for each group of a module: no index in a type is of a later group, and
--- each reference names a member of its kind.
-use Rattle.std.proofs.Common.{◌≡◌, ℕ, ◌+◌, ◌-◌, ◌<◌, ◌≤◌, ◌||◌, Bool, false, not, nat_lt, List, [], ◌∷◌, ◌++◌, length, map, slice_get, Option, Some, None, option_map, refl, ap, sym, ◌∙◌, arith}
+-- What follows where no rule is broken, for each group of a module: no index in a type is of a later group, a
+-- supertype is declared before, and each reference names a member of its kind.
+use Rattle.std.proofs.Common.{◌≡◌, ℕ, zero, suc, ◌+◌, ◌-◌, ◌<◌, ◌≤◌, ◌||◌, Bool, true, false, not, nat_lt, if◌then◌else◌, inl, inr, List, [], ◌∷◌, ◌++◌, length, map, slice_get, Option, Some, None, option_map, refl, ap, sym, ◌∙◌, arith}
 use Rattle.std.specs.Prelude.{option_to_list}
 use Rattle.std.specs.List.{list_any}
 use Rattle.std.specs.Option.{option_or}
 use Rattle.std.proofs.lemmas.Bool.{false≢true}
 use Rattle.std.proofs.lemmas.List.{length-map, length-append}
 use Rattle.std.proofs.lemmas.Grind.{flat_map-append}
-use Rattle.std.proofs.lemmas.Iterator.Adapters.{position_from-zero}
 use Rattle.std.proofs.lemmas.Option.{slice_get-map}
 use Rattle.wt_env.specs.declared.types.ModuleInternedTypeIndex.{ModuleInternedTypeIndex}
 use Rattle.wt_env.specs.declared.types.EngineOrModuleTypeIndex.{EngineOrModuleTypeIndex}
@@ -17,10 +16,13 @@ use Rattle.wt_env.specs.declared.types.Kind.TheVariants as kind
 use Rattle.wt_env.specs.declared.types.WasmSubType.{WasmSubType}
 use Rattle.wt_env.specs.declared.types.WasmRecGroup.{WasmRecGroup}
 use Rattle.wt_env.specs.Among.{Among}
-use Rattle.wt_env.proofs.lists.Found.{none_found}
+use Rattle.wt_env.proofs.lists.Found.{neither}
+use Rattle.wt_env.proofs.lists.Members.{some_same}
 use Rattle.wt_tree.specs.References.{super_refs, sub_refs}
+use Rattle.wt_rules.specs.declared.place.Rule.{Rule}
 use Rattle.wt_rules.specs.declared.place.Rule.TheVariants as rule
-use Rattle.wt_rules.specs.Rules.{total_members, member_kind, kinds_of, is_forward, breaks_forward, kinded_shape, kinded_refs, kind_eq, is_other, has_other_kind, breaks_kind, first_member, broken_forward, broken_kind, broken_in, placed_in, first_broken_from, first_broken, type_indices}
+use Rattle.wt_tree.specs.Kinds.{member_kind, kinded_shape, kinded_refs, kind_eq, type_indices}
+use Rattle.wt_rules.specs.Rules.{total_members, kinds_of, is_forward, breaks_forward, breaks_super_order, is_other, has_other_kind, breaks_kind, broken_order, broken_types, first_member, broken_in, placed_in, first_broken_from, first_broken}
 use Rattle.wt_rules.proofs.KindLookup.{get_left, get_right}
 use Rattle.wt_rules.proofs.Referring.{any_by_parts}
 use Rattle.wt_rules.proofs.ModuleReferences.{none_of, indices_by_parts}
@@ -35,8 +37,37 @@ none_mapped : {A B : Type 0} (f : A → B) (o : Option A) → option_map f o ≡
 none_mapped f None is = refl
 none_mapped f (Some x) is = absurd (cc)
 
-none_breaks : (breaks : WasmSubType → Bool) (members : List WasmSubType) → first_member breaks members ≡ None → list_any breaks members ≡ false
-none_breaks breaks members none = none_found breaks 0 members (sym (position_from-zero breaks members) ∙ none)
+-- ---- one member by one
+
+-- where a rule is told first, neither it nor a later one is broken
+not_told : {A : Type 0} (test : Bool) (x : A) (rest : Option A) → (if test then Some x else rest) ≡ None → (test ≡ false) × (rest ≡ None)
+not_told true x rest is = absurd (cc)
+not_told false x rest is = (refl, is)
+
+module _ (broken : ℕ → WasmSubType → Option Rule) (start : ℕ) where
+  -- none is found, so none of those that are left has a broken rule
+  left_keep : (member : ℕ) (t : WasmSubType) (members : List WasmSubType) → first_member broken start member (t ∷ members) ≡ None
+      → (broken (start + member) t ≡ None) × (first_member broken start (member + 1) members ≡ None)
+  left_keep member t members none =
+      let parts = neither_some (option_map (λ (which : Rule). (member, which)) (broken (start + member) t)) (first_member broken start (member + 1) members) none in
+      (none_mapped (λ (which : Rule). (member, which)) (broken (start + member) t) parts.0, parts.1)
+
+  -- the member at a place has none
+  keeps_at : (member : ℕ) (members : List WasmSubType) → first_member broken start member members ≡ None
+      → (n : ℕ) (t : WasmSubType) → slice_get members n ≡ Some t → broken (start + (member + n)) t ≡ None
+  keeps_at member [] none n t is = absurd (cc)
+  keeps_at member (x ∷ members) none zero t is =
+      let at : start + (member + 0) ≡ start + member = omega arith in
+      ap (λ (own : ℕ). broken own t) at ∙ ap (broken (start + member)) (sym (some_same is)) ∙ (left_keep member x members none).0
+  keeps_at member (x ∷ members) none (suc n) t is =
+      let at : start + (member + suc n) ≡ start + ((member + 1) + n) = omega arith in
+      ap (λ (own : ℕ). broken own t) at ∙ keeps_at (member + 1) members (left_keep member x members none).1 n t is
+
+  -- a member has none, by its own index
+  keeps_among : (member : ℕ) (members : List WasmSubType) → first_member broken start member members ≡ None → (t : WasmSubType) → Among t members → (own : ℕ) × (broken own t ≡ None)
+  keeps_among member [] none t at = absurd at
+  keeps_among member (x ∷ members) none t (inl same) = (start + member, ap (broken (start + member)) same ∙ (left_keep member x members none).0)
+  keeps_among member (x ∷ members) none t (inr there) = keeps_among (member + 1) members (left_keep member x members none).1 t there
 
 -- ---- the rules, group by group
 
@@ -52,24 +83,36 @@ in_group kinds number start (g ∷ before) group rest none =
     let at : start + (length g.types + total_members before) ≡ (start + length g.types) + total_members before = omega arith in
     ap (λ (n : ℕ). broken_in kinds n group.types) at ∙ in_group kinds (number + 1) (start + length g.types) before group rest later.1
 
--- no type of these breaks a rule, where the group ends there
-pub record KeepRules (kinds : List Kind) (end : ℕ) (types : List WasmSubType) : Type 0 where
-  pub forward : (ty : WasmSubType) → Among ty types → breaks_forward end ty ≡ false
+-- no type of these breaks a rule, where so many are before them
+pub record KeepRules (kinds : List Kind) (start : ℕ) (types : List WasmSubType) : Type 0 where
+  pub forward : (ty : WasmSubType) → Among ty types → breaks_forward (start + length types) ty ≡ false
+  pub super_order : (place : ℕ) (ty : WasmSubType) → slice_get types place ≡ Some ty → breaks_super_order (start + place) ty ≡ false
   pub kinded : (ty : WasmSubType) → Among ty types → breaks_kind kinds ty ≡ false
 
+order_kept : (end own : ℕ) (t : WasmSubType) → broken_order end own t ≡ None → (breaks_forward end t ≡ false) × (breaks_super_order own t ≡ false)
+order_kept end own t none =
+    let first = not_told (breaks_forward end t) rule.Forward (if breaks_super_order own t then Some rule.SuperOrder else None) none in
+    (first.0, (not_told (breaks_super_order own t) rule.SuperOrder None first.1).0)
+
 pub rules-kept : (before : List WasmRecGroup) (group : WasmRecGroup) (rest : List WasmRecGroup) → first_broken (before ++ group ∷ rest) ≡ None
-    → KeepRules (kinds_of (before ++ group ∷ rest)) (total_members before + length group.types) group.types
+    → KeepRules (kinds_of (before ++ group ∷ rest)) (total_members before) group.types
 rules-kept before group rest none =
     let kinds = kinds_of (before ++ group ∷ rest) in
-    let end = total_members before + length group.types in
-    let at : 0 + total_members before ≡ total_members before = omega arith in
-    let here : broken_in kinds (total_members before) group.types ≡ None = ap (λ (n : ℕ). broken_in kinds n group.types) (sym at) ∙ in_group kinds 0 0 before group rest none in
-    let both = neither_some (broken_forward end group.types) (broken_kind kinds group.types) here in
-    let forward = none_mapped (λ (member : ℕ). (member, rule.Forward)) (first_member (breaks_forward end) group.types) both.0 in
-    let kinded = none_mapped (λ (member : ℕ). (member, rule.Kind)) (first_member (breaks_kind kinds) group.types) both.1 in
+    let start = total_members before in
+    let end = start + length group.types in
+    let at : 0 + start ≡ start = omega arith in
+    let here : broken_in kinds start group.types ≡ None = ap (λ (n : ℕ). broken_in kinds n group.types) (sym at) ∙ in_group kinds 0 0 before group rest none in
+    let both = neither_some (first_member (broken_order end) start 0 group.types) (first_member (broken_types kinds) start 0 group.types) here in
     record {
-      forward = none_of (breaks_forward end) group.types (none_breaks (breaks_forward end) group.types forward);
-      kinded = none_of (breaks_kind kinds) group.types (none_breaks (breaks_kind kinds) group.types kinded);
+      forward = λ ty among.
+          let kept = keeps_among (broken_order end) start 0 group.types both.0 ty among in
+          (order_kept end kept.0 ty kept.1).0;
+      super_order = λ place ty is.
+          let own : start + (0 + place) ≡ start + place = omega arith in
+          ap (λ (n : ℕ). breaks_super_order n ty) (sym own) ∙ (order_kept end (start + (0 + place)) ty (keeps_at (broken_order end) start 0 group.types both.0 place ty is)).1;
+      kinded = λ ty among.
+          let kept = keeps_among (broken_types kinds) start 0 group.types both.1 ty among in
+          (not_told (breaks_kind kinds ty) rule.Kind None kept.1).0;
     }
 
 -- ---- no index is of a later group
@@ -95,6 +138,15 @@ is_within n end is = grind (arith, is)
 pub forward-kept : (end : ℕ) (t : WasmSubType) (j : ModuleInternedTypeIndex) → breaks_forward end t ≡ false → Among (index.Module j) (type_indices t) → j.0 < end
 forward-kept end t j keeps at =
     is_within j.0 end (none_of (is_forward end) (type_indices t) (indices_same (is_forward end) (λ k. refl) t ∙ keeps) (index.Module j) at)
+
+-- ---- a supertype is declared before
+
+-- a supertype by module index is below the index of the type that declares it
+pub super_order-kept : (own : ℕ) (t : WasmSubType) (j : ModuleInternedTypeIndex) → breaks_super_order own t ≡ false → t.supertype ≡ Some (index.Module j) → j.0 < own
+super_order-kept own t j keeps is =
+    let test : list_any (is_forward own) (super_refs t.supertype) ≡ false = keeps in
+    let named : (not (nat_lt j.0 own) || false) ≡ false = ap (λ (super : Option EngineOrModuleTypeIndex). list_any (is_forward own) (super_refs super)) (sym is) ∙ test in
+    is_within j.0 own (neither (not (nat_lt j.0 own)) false named).0
 
 -- ---- each reference names a member of its kind
 

@@ -4,7 +4,8 @@ use Rattle.std.proofs.lemmas.Option.{slice_get-map}
 use Rattle.std.proofs.lemmas.List.{length-map, drop_more}
 use Rattle.wt_env.specs.declared.types.WasmSubType.{WasmSubType}
 use Rattle.wt_env.specs.declared.types.WasmRecGroup.{WasmRecGroup}
-use Rattle.wt_rules.specs.Rules.{member_kind, kinds_of}
+use Rattle.wt_tree.specs.Kinds.{member_kind}
+use Rattle.wt_rules.specs.Rules.{kinds_of}
 
 get_first : {A : Type 0} (xs ys : List A) (n : ℕ) (x : A) → slice_get xs n ≡ Some x → slice_get (xs ++ ys) n ≡ Some x
 get_first [] ys n x is = absurd (cc)

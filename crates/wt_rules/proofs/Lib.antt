@@ -1,4 +1,3 @@
-pub mod ChangedKinds
 pub mod KeptRules
 pub mod KindLookup
 pub mod ModuleReferences

@@ -1,6 +1,6 @@
 -- Whether each type index in a module's types is a module index, and what follows for the references that leave a
 -- group: none is by engine index, since a place within the group doesn't leave it.
-use Rattle.std.proofs.Common.{◌≡◌, ◌↔◌, ◌||◌, Bool, true, false, not, IsTrue, List, [], ◌∷◌, map, Option, Some, None, inl, inr, refl, ap, sym, ◌∙◌}
+use Rattle.std.proofs.Common.{◌≡◌, ◌↔◌, ◌||◌, Bool, true, false, not, IsTrue, List, [], ◌∷◌, map, Option, Some, None, inl, inr, refl, ap, sym, subst, ◌∙◌}
 use Rattle.std.specs.Prelude.{option_to_list}
 use Rattle.std.specs.List.{list_any, flat_map}
 use Rattle.std.proofs.lemmas.Bool.{false≢true}
@@ -11,10 +11,13 @@ use Rattle.wt_env.specs.declared.types.Kind.{Kind}
 use Rattle.wt_env.specs.declared.types.WasmSubType.{WasmSubType}
 use Rattle.wt_env.specs.declared.types.WasmRecGroup.{WasmRecGroup}
 use Rattle.wt_env.specs.Among.{Among}
+use Rattle.wt_env.proofs.lists.Mapped.{among_mapped}
+use Rattle.wt_env.proofs.lists.Members.{among_before, among_behind}
 use Rattle.wt_tree.specs.References.{index_refs, super_refs, sub_refs, group_refs}
 use Rattle.wt_tree.proofs.Changing.{map_group_refs-none}
 use Rattle.wt_tree.proofs.LeftReferences.{group_refs-left}
-use Rattle.wt_rules.specs.Rules.{kinded_shape, is_module_index, type_indices, AreModuleTypes}
+use Rattle.wt_tree.specs.Kinds.{kinded_shape, kinded_refs, indices_of, type_indices}
+use Rattle.wt_rules.specs.Rules.{is_module_index, AreModuleTypes}
 use Rattle.wt_rules.proofs.Referring.{any_flat_map, any_by_parts}
 
 -- ---- what leaves a group
@@ -110,6 +113,15 @@ indices_engine t =
     indices_by_parts is_engine_index t
     ∙ ap (λ b. b || list_any (λ reference. is_engine_index reference.1) (kinded_shape t.composite_type)) (super_same t.supertype)
     ∙ sym (any_by_parts is_engine_index (λ k. refl) t)
+
+-- a supertype is one of them
+pub super_index : (t : WasmSubType) (i : EngineOrModuleTypeIndex) → t.supertype ≡ Some i → Among i (type_indices t)
+super_index t i is = among_before (option_to_list t.supertype) (indices_of (kinded_refs t)) i (subst (λ (super : Option EngineOrModuleTypeIndex). Among i (option_to_list super)) (sym is) (inl refl))
+
+-- and so is what a reference names
+pub kinded_index : (t : WasmSubType) (reference : Kind × EngineOrModuleTypeIndex) → Among reference (kinded_refs t) → Among reference.1 (type_indices t)
+kinded_index t reference at =
+    among_behind (option_to_list t.supertype) (indices_of (kinded_refs t)) reference.1 (among_mapped (λ (r : Kind × EngineOrModuleTypeIndex). r.1) (kinded_refs t) reference at)
 
 -- ---- a module
 

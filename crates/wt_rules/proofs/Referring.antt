@@ -18,7 +18,8 @@ use Rattle.wt_env.specs.declared.types.WasmCompositeInnerType.{WasmCompositeInne
 use Rattle.wt_env.specs.declared.types.WasmCompositeInnerType.TheVariants as shape
 use Rattle.wt_env.specs.declared.types.WasmSubType.{WasmSubType}
 use Rattle.wt_tree.specs.References.{index_refs, heap_refs, val_refs, vals_refs, storage_refs, fields_refs, shape_refs, super_refs, sub_refs}
-use Rattle.wt_rules.specs.Rules.{is_forward, breaks_forward, kinded_heap, kinded_val, kinded_vals, kinded_storage, kinded_fields, kinded_shape}
+use Rattle.wt_tree.specs.Kinds.{kinded_heap, kinded_val, kinded_vals, kinded_storage, kinded_fields, kinded_shape}
+use Rattle.wt_rules.specs.Rules.{is_forward, breaks_forward}
 
 -- an element of some of the lists passes a test, in one list or list by list
 pub any_flat_map : {X A : Type 0} (test : A → Bool) (f : X → List A) (xs : List X) → list_any test (flat_map f xs) ≡ list_any (λ x. list_any test (f x)) xs

@@ -17,6 +17,8 @@ pub enum Place {
 pub enum Rule {
     /// A type refers to none that is after its recursion group (WebAssembly 3.0, "Recursive Types").
     Forward,
+    /// A type's supertype is declared before it (WebAssembly 3.0, "Recursive Types").
+    SuperOrder,
     /// A concrete reference names a type of the kind that it says, and the function of an exception or a
     /// continuation is one (WebAssembly 3.0, "Heap Types"; a kind for each concrete reference, exceptions and
     /// continuations after wasmtime).

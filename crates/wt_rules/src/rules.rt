@@ -1,11 +1,14 @@
 //! The rules that the recursion groups of a module keep: which is broken first, and where. Nothing here takes
 //! memory, so what an index names is looked up in the groups each time.
 
-ghost use Rattle.std.specs.Prelude.{◌≡◌, ◌↔◌, ◌+◌, ◌<◌, ◌^◌, List, Bool, IsTrue, not, length, slice_get, IfSome, option_to_list};
+ghost use Rattle.std.specs.Prelude.{◌≡◌, ◌↔◌, ℕ, ◌+◌, ◌<◌, ◌^◌, List, Bool, Option, IsTrue, not, length, slice_get, option_to_list};
 ghost use Rattle.std.specs.List.{list_all, list_any};
 ghost use Rattle.wt_env.specs.declared.types.EngineOrModuleTypeIndex.{EngineOrModuleTypeIndex as Index};
 ghost use Rattle.wt_env.specs.declared.types.Kind.{Kind as KindOfType};
+ghost use Rattle.wt_env.specs.declared.types.WasmSubType.{WasmSubType as SubType};
+ghost use Rattle.wt_tree.specs.Kinds as kinded;
 ghost use Rattle.wt_tree.specs.References.{super_refs, sub_refs};
+ghost use Rattle.wt_rules.specs.declared.place.Rule.{Rule as RuleOfModule};
 ghost use Rattle.wt_rules.specs.Rules as stated;
 ghost use Rattle.wt_rules.specs.Rules.{total_members, AreCountable, AreModuleTypes};
 
@@ -16,7 +19,7 @@ use wt_env::types::{
 };
 
 fn kind_of(shape: &WasmCompositeInnerType) -> Kind
-    ensures { result ≡ stated.kind_of shape.now }
+    ensures { result ≡ kinded.kind_of shape.now }
 {
     match shape {
         WasmCompositeInnerType::Func(_) => Kind::Func,
@@ -28,7 +31,7 @@ fn kind_of(shape: &WasmCompositeInnerType) -> Kind
 }
 
 fn is_same_kind(wanted: Kind, found: Kind) -> bool
-    ensures { result ≡ stated.kind_eq wanted found }
+    ensures { result ≡ kinded.kind_eq wanted found }
 {
     wanted == found
 }
@@ -56,7 +59,7 @@ trait ReferenceTest {
 }
 
 fn any_of_heap<T: ReferenceTest>(test: &T, heap: WasmHeapType) -> bool
-    ensures { result ≡ list_any (λ r. T.breaks test.now r.0 r.1) (stated.kinded_heap heap) }
+    ensures { result ≡ list_any (λ r. T.breaks test.now r.0 r.1) (kinded.kinded_heap heap) }
 {
     match heap {
         WasmHeapType::ConcreteFunc(index) => test.is_broken_by(Kind::Func, index),
@@ -69,7 +72,7 @@ fn any_of_heap<T: ReferenceTest>(test: &T, heap: WasmHeapType) -> bool
 }
 
 fn any_of_val<T: ReferenceTest>(test: &T, ty: WasmValType) -> bool
-    ensures { result ≡ list_any (λ r. T.breaks test.now r.0 r.1) (stated.kinded_val ty) }
+    ensures { result ≡ list_any (λ r. T.breaks test.now r.0 r.1) (kinded.kinded_val ty) }
 {
     match ty {
         WasmValType::Ref(reference) => any_of_heap(test, reference.heap_type),
@@ -78,7 +81,7 @@ fn any_of_val<T: ReferenceTest>(test: &T, ty: WasmValType) -> bool
 }
 
 fn any_of_field<T: ReferenceTest>(test: &T, field: WasmFieldType) -> bool
-    ensures { result ≡ list_any (λ r. T.breaks test.now r.0 r.1) (stated.kinded_field field) }
+    ensures { result ≡ list_any (λ r. T.breaks test.now r.0 r.1) (kinded.kinded_field field) }
 {
     match field.element_type {
         WasmStorageType::Val(value) => any_of_val(test, value),
@@ -88,7 +91,7 @@ fn any_of_field<T: ReferenceTest>(test: &T, field: WasmFieldType) -> bool
 
 #[tactic(auto, using(crate::proofs::Referring::any_flat_map))]
 fn any_of_vals<T: ReferenceTest>(test: &T, types: &[WasmValType]) -> bool
-    ensures { result ≡ list_any (λ r. T.breaks test.now r.0 r.1) (stated.kinded_vals types.now) }
+    ensures { result ≡ list_any (λ r. T.breaks test.now r.0 r.1) (kinded.kinded_vals types.now) }
 {
     for ty in types {
         if any_of_val(test, *ty) {
@@ -100,7 +103,7 @@ fn any_of_vals<T: ReferenceTest>(test: &T, types: &[WasmValType]) -> bool
 
 #[tactic(auto, using(crate::proofs::Referring::any_flat_map))]
 fn any_of_fields<T: ReferenceTest>(test: &T, fields: &[WasmFieldType]) -> bool
-    ensures { result ≡ list_any (λ r. T.breaks test.now r.0 r.1) (stated.kinded_fields fields.now) }
+    ensures { result ≡ list_any (λ r. T.breaks test.now r.0 r.1) (kinded.kinded_fields fields.now) }
 {
     for field in fields {
         if any_of_field(test, *field) {
@@ -111,7 +114,7 @@ fn any_of_fields<T: ReferenceTest>(test: &T, fields: &[WasmFieldType]) -> bool
 }
 
 fn any_of_shape<T: ReferenceTest>(test: &T, shape: &WasmCompositeInnerType) -> bool
-    ensures { result ≡ list_any (λ r. T.breaks test.now r.0 r.1) (stated.kinded_shape shape.now) }
+    ensures { result ≡ list_any (λ r. T.breaks test.now r.0 r.1) (kinded.kinded_shape shape.now) }
 {
     match shape {
         WasmCompositeInnerType::Func(func) => {
@@ -126,8 +129,8 @@ fn any_of_shape<T: ReferenceTest>(test: &T, shape: &WasmCompositeInnerType) -> b
     }
 }
 
-/// Whether an index is of no type before the end of the group, which is the number of members up to and with
-/// it.
+/// Whether an index isn't below this bound: the end of a group, which is the number of members up to and with it,
+/// or a type's own index.
 fn is_forward(end: u32, index: EngineOrModuleTypeIndex) -> bool
     ensures { result ≡ stated.is_forward end index }
 {
@@ -194,18 +197,71 @@ fn breaks_kind(groups: &[WasmRecGroup], ty: &WasmSubType) -> bool
     any_of_shape(&HasOtherKind { groups }, &ty.composite_type)
 }
 
-fn first_forward(end: u32, members: &[WasmSubType]) -> Option<usize>
-    ensures first { result ≡ stated.first_member (stated.breaks_forward end) members.now }
-    ensures within { IfSome result (λ member. member < length members.now) }
-{
-    members.iter().position(|ty| breaks_forward(end, ty))
+/// What a group has to keep of each of its members, which is searched in one go.
+trait MemberRules {
+    ghost broken: { Self → ℕ → SubType → Option RuleOfModule };
+
+    /// The first of these rules that a type breaks. It has this index among the members of all groups.
+    fn first_broken_by(&self, own: u32, ty: &WasmSubType) -> Option<Rule>
+        ensures { result ≡ broken self.now own ty.now };
 }
 
-fn first_of_other_kind(groups: &[WasmRecGroup], members: &[WasmSubType]) -> Option<usize>
-    ensures first { result ≡ stated.first_member (stated.breaks_kind (stated.kinds_of groups.now)) members.now }
-    ensures within { IfSome result (λ member. member < length members.now) }
+/// The rules on the order of types.
+#[derive(Clone, Copy)]
+struct OrderRules {
+    /// How many members the groups have up to and with this one.
+    end: u32,
+}
+
+impl MemberRules for OrderRules {
+    ghost broken = { λ rules. stated.broken_order rules.end };
+
+    fn first_broken_by(&self, own: u32, ty: &WasmSubType) -> Option<Rule> {
+        if breaks_forward(self.end, ty) {
+            Some(Rule::Forward)
+        } else if supertype_is_forward(own, ty.supertype) {
+            Some(Rule::SuperOrder)
+        } else {
+            None
+        }
+    }
+}
+
+/// The rules on what the types are that a type names.
+#[derive(Clone, Copy)]
+struct TypeRules<'a> {
+    /// The groups of the module.
+    groups: &'a [WasmRecGroup],
+}
+
+impl<'a> MemberRules for TypeRules<'a> {
+    ghost broken = { λ rules. stated.broken_types (stated.kinds_of rules.groups.now) };
+
+    fn first_broken_by(&self, _own: u32, ty: &WasmSubType) -> Option<Rule> {
+        if breaks_kind(self.groups, ty) {
+            Some(Rule::Kind)
+        } else {
+            None
+        }
+    }
+}
+
+/// The first member for which a rule is broken, and which. Before the group are as many members as `start` says.
+fn first_member<R: MemberRules>(
+    rules: &R,
+    start: u32,
+    members: &[WasmSubType],
+) -> Option<(u32, Rule)>
+    requires { start + length members.now < 2 ^ 32 }
+    ensures { result ≡ stated.first_member (R.broken rules.now) start 0 members.now }
 {
-    members.iter().position(|ty| breaks_kind(groups, ty))
+    for (place, ty) in members.iter().enumerate() {
+        let place = place as u32;
+        if let Some(rule) = rules.first_broken_by(start + place, ty) {
+            return Some((place, rule));
+        }
+    }
+    None
 }
 
 /// The first member of a group that breaks a rule, and which. Before the group are as many members as
@@ -214,12 +270,10 @@ fn broken_in(groups: &[WasmRecGroup], start: u32, members: &[WasmSubType]) -> Op
     requires { start + length members.now < 2 ^ 32 }
     ensures { result ≡ stated.broken_in (stated.kinds_of groups.now) start members.now }
 {
-    if let Some(member) = first_forward(start + members.len() as u32, members) {
-        return Some((member as u32, Rule::Forward));
-    }
-    match first_of_other_kind(groups, members) {
-        Some(member) => Some((member as u32, Rule::Kind)),
-        None => None,
+    let end = start + members.len() as u32;
+    match first_member(&OrderRules { end }, start, members) {
+        None => first_member(&TypeRules { groups }, start, members),
+        broken => broken,
     }
 }
 
@@ -247,8 +301,8 @@ pub fn are_countable(types: &ModuleTypes) -> bool
 }
 
 /// The first member of a module that breaks a rule of its groups, and which: in each group in order no type
-/// refers to one after the group, and then each reference names a type of the kind that it says
-/// (WebAssembly 3.0, "Recursive Types" and "Heap Types").
+/// refers to one after the group, and its supertype is declared before it; where that is so of the whole group,
+/// each reference names a type of the kind that it says (WebAssembly 3.0, "Recursive Types" and "Heap Types").
 pub fn first_broken(types: &ModuleTypes) -> Option<(Place, Rule)>
     requires { AreCountable types.now.groups }
     ensures { result ≡ stated.first_broken types.now.groups }
@@ -322,19 +376,19 @@ impl ReferenceTest for IsForeign {
 }
 
 fn has_foreign(ty: &WasmSubType) -> bool
-    ensures { result ≡ list_any (λ i. not (stated.is_module_index i)) (stated.type_indices ty.now) }
+    ensures { result ≡ list_any (λ i. not (stated.is_module_index i)) (kinded.type_indices ty.now) }
 {
     supertype_is_foreign(ty.supertype) || any_of_shape(&IsForeign, &ty.composite_type)
 }
 
 fn group_has_foreign(group: &WasmRecGroup) -> bool
-    ensures { result ≡ list_any (λ ty. list_any (λ i. not (stated.is_module_index i)) (stated.type_indices ty)) group.now.types }
+    ensures { result ≡ list_any (λ ty. list_any (λ i. not (stated.is_module_index i)) (kinded.type_indices ty)) group.now.types }
 {
     group.types.as_slice().iter().any(has_foreign)
 }
 
 fn any_has_foreign(groups: &[WasmRecGroup]) -> bool
-    ensures { result ≡ list_any (λ group. list_any (λ ty. list_any (λ i. not (stated.is_module_index i)) (stated.type_indices ty)) group.types) groups.now }
+    ensures { result ≡ list_any (λ group. list_any (λ ty. list_any (λ i. not (stated.is_module_index i)) (kinded.type_indices ty)) group.types) groups.now }
 {
     groups.iter().any(group_has_foreign)
 }
@@ -401,15 +455,16 @@ mod tests {
         Ok(open(WasmCompositeInnerType::Struct(WasmStructType { fields })))
     }
 
+    /// A struct with one field of 31 bits, whose supertype is this type of the module.
+    fn below(alloc: Global, index: u32) -> Result<WasmSubType, OutOfMemory> {
+        let mut lower = structure(alloc, WasmHeapType::I31)?;
+        lower.supertype = Some(of_module(index));
+        Ok(lower)
+    }
+
     /// A struct with one field that refers to this struct of the module.
     fn structure_of(alloc: Global, index: u32) -> Result<WasmSubType, OutOfMemory> {
         structure(alloc, WasmHeapType::ConcreteStruct(of_module(index)))
-    }
-
-    fn one(alloc: Global, ty: WasmSubType) -> Result<WasmRecGroup, OutOfMemory> {
-        Ok(WasmRecGroup {
-            types: Seq::one(alloc, ty)?,
-        })
     }
 
     fn two(
@@ -439,10 +494,12 @@ mod tests {
     #[test]
     fn a_later_group_is_named(rt: HostRuntime) -> Result<(), Fail> {
         let alloc = rt.alloc();
-        let good = one(alloc, function(alloc, WasmHeapType::Any)?)?;
+        let good = WasmRecGroup::alone(alloc, function(alloc, WasmHeapType::Any)?)?;
         let later = two(alloc, structure_of(alloc, 2)?, structure_of(alloc, 3)?)?;
         let mut types = module(alloc, good, later)?;
-        types.groups.push(one(alloc, structure_of(alloc, 1)?)?)?;
+        types
+            .groups
+            .push(WasmRecGroup::alone(alloc, structure_of(alloc, 1)?)?)?;
         assert!(rt; are_countable(&types));
         assert_eq!(rt; first_broken(&types), at(1, 1, Rule::Forward));
         assert!(rt; !are_functions(&types));
@@ -455,7 +512,11 @@ mod tests {
         let mut lower = function(alloc, WasmHeapType::ConcreteFunc(of_module(0)))?;
         lower.supertype = Some(of_module(1));
         let upper = function(alloc, WasmHeapType::NoFunc)?;
-        let types = module(alloc, one(alloc, lower)?, one(alloc, upper)?)?;
+        let types = module(
+            alloc,
+            WasmRecGroup::alone(alloc, lower)?,
+            WasmRecGroup::alone(alloc, upper)?,
+        )?;
         assert!(rt; are_countable(&types));
         assert_eq!(rt; first_broken(&types), at(0, 0, Rule::Forward));
         assert!(rt; are_functions(&types));
@@ -465,7 +526,7 @@ mod tests {
     #[test]
     fn a_struct_reference_names_a_function(rt: HostRuntime) -> Result<(), Fail> {
         let alloc = rt.alloc();
-        let good = one(alloc, function(alloc, WasmHeapType::I31)?)?;
+        let good = WasmRecGroup::alone(alloc, function(alloc, WasmHeapType::I31)?)?;
         let bad = two(alloc, structure_of(alloc, 1)?, structure_of(alloc, 0)?)?;
         let types = module(alloc, good, bad)?;
         assert!(rt; are_countable(&types));
@@ -479,9 +540,58 @@ mod tests {
         // the first member is no function, and the second names what is after the group
         let wrong = structure(alloc, WasmHeapType::ConcreteFunc(of_module(0)))?;
         let both = two(alloc, wrong, structure_of(alloc, 2)?)?;
-        let types = module(alloc, both, one(alloc, structure_of(alloc, 2)?)?)?;
+        let types = module(
+            alloc,
+            both,
+            WasmRecGroup::alone(alloc, structure_of(alloc, 2)?)?,
+        )?;
         assert!(rt; are_countable(&types));
         assert_eq!(rt; first_broken(&types), at(0, 1, Rule::Forward));
+        Ok(())
+    }
+
+    #[test]
+    fn a_supertype_is_declared_before(rt: HostRuntime) -> Result<(), Fail> {
+        let alloc = rt.alloc();
+        let good = two(
+            alloc,
+            structure(alloc, WasmHeapType::I31)?,
+            below(alloc, 0)?,
+        )?;
+        let later = two(alloc, below(alloc, 0)?, below(alloc, 2)?)?;
+        let types = module(alloc, good, later)?;
+        assert!(rt; are_countable(&types));
+        assert_eq!(rt; first_broken(&types), None);
+        let own = two(
+            alloc,
+            structure(alloc, WasmHeapType::I31)?,
+            below(alloc, 1)?,
+        )?;
+        let types = module(
+            alloc,
+            own,
+            WasmRecGroup::alone(alloc, structure_of(alloc, 0)?)?,
+        )?;
+        assert!(rt; are_countable(&types));
+        assert_eq!(rt; first_broken(&types), at(0, 1, Rule::SuperOrder));
+        Ok(())
+    }
+
+    #[test]
+    fn the_order_is_told_member_by_member(rt: HostRuntime) -> Result<(), Fail> {
+        let alloc = rt.alloc();
+        // the first member is of another kind than it says, the second is its own supertype
+        let wrong = structure(alloc, WasmHeapType::ConcreteFunc(of_module(0)))?;
+        let mut group = two(alloc, wrong, below(alloc, 1)?)?;
+        // and the third names what is after the group
+        group.types.push(structure_of(alloc, 3)?)?;
+        let types = module(
+            alloc,
+            group,
+            WasmRecGroup::alone(alloc, structure_of(alloc, 0)?)?,
+        )?;
+        assert!(rt; are_countable(&types));
+        assert_eq!(rt; first_broken(&types), at(0, 1, Rule::SuperOrder));
         Ok(())
     }
 
@@ -512,9 +622,13 @@ mod tests {
         let alloc = rt.alloc();
         let good = two(alloc, structure_of(alloc, 1)?, structure_of(alloc, 0)?)?;
         let bad = structure(alloc, WasmHeapType::ConcreteStruct(of_engine(0)))?;
-        let mut types = module(alloc, good, one(alloc, structure_of(alloc, 0)?)?)?;
+        let mut types = module(
+            alloc,
+            good,
+            WasmRecGroup::alone(alloc, structure_of(alloc, 0)?)?,
+        )?;
         assert!(rt; are_module_types(&types));
-        types.groups.push(one(alloc, bad)?)?;
+        types.groups.push(WasmRecGroup::alone(alloc, bad)?)?;
         assert!(rt; !are_module_types(&types));
         Ok(())
     }
@@ -524,8 +638,8 @@ mod tests {
         let alloc = rt.alloc();
         let mut lower = function(alloc, WasmHeapType::NoFunc)?;
         lower.supertype = Some(of_engine(0));
-        let first = one(alloc, function(alloc, WasmHeapType::NoFunc)?)?;
-        let types = module(alloc, first, one(alloc, lower)?)?;
+        let first = WasmRecGroup::alone(alloc, function(alloc, WasmHeapType::NoFunc)?)?;
+        let types = module(alloc, first, WasmRecGroup::alone(alloc, lower)?)?;
         assert!(rt; !are_module_types(&types));
         Ok(())
     }
@@ -535,8 +649,8 @@ mod tests {
         let alloc = rt.alloc();
         let mut lower = function(alloc, WasmHeapType::NoFunc)?;
         lower.supertype = Some(EngineOrModuleTypeIndex::RecGroup(0));
-        let first = one(alloc, function(alloc, WasmHeapType::NoFunc)?)?;
-        let types = module(alloc, first, one(alloc, lower)?)?;
+        let first = WasmRecGroup::alone(alloc, function(alloc, WasmHeapType::NoFunc)?)?;
+        let types = module(alloc, first, WasmRecGroup::alone(alloc, lower)?)?;
         assert!(rt; !are_module_types(&types));
         Ok(())
     }
@@ -545,8 +659,15 @@ mod tests {
     fn a_place_in_the_group_is_no_module_index(rt: HostRuntime) -> Result<(), Fail> {
         let alloc = rt.alloc();
         let own = EngineOrModuleTypeIndex::RecGroup(0);
-        let first = one(alloc, structure(alloc, WasmHeapType::ConcreteStruct(own))?)?;
-        let types = module(alloc, first, one(alloc, structure_of(alloc, 0)?)?)?;
+        let first = WasmRecGroup::alone(
+            alloc,
+            structure(alloc, WasmHeapType::ConcreteStruct(own))?,
+        )?;
+        let types = module(
+            alloc,
+            first,
+            WasmRecGroup::alone(alloc, structure_of(alloc, 0)?)?,
+        )?;
         assert!(rt; !are_module_types(&types));
         Ok(())
     }

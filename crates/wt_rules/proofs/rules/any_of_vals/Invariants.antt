@@ -1,7 +1,7 @@
 -- those from here on decide
 use Rattle.std.proofs.Common.{◌≡◌, drop}
 use Rattle.std.specs.List.{list_any}
-use Rattle.wt_rules.specs.Rules.{kinded_val, kinded_vals}
+use Rattle.wt_tree.specs.Kinds.{kinded_val, kinded_vals}
 use Rattle.wt_rules.proofs.rules.any_of_vals.Given as goal
 
 abbrev pub invariant-loop-ty : goal.invariant-loop-ty

@@ -1,7 +1,8 @@
 -- the supertype breaks nothing, so the shape decides
 use Rattle.std.proofs.Common.{◌||◌, ap, sym, ◌∙◌}
 use Rattle.std.specs.List.{list_any}
-use Rattle.wt_rules.specs.Rules.{is_forward, kinded_shape}
+use Rattle.wt_tree.specs.Kinds.{kinded_shape}
+use Rattle.wt_rules.specs.Rules.{is_forward}
 use Rattle.wt_rules.proofs.Referring.{forward_by_parts}
 use Rattle.wt_rules.proofs.rules.breaks_forward.Goals as goal
 

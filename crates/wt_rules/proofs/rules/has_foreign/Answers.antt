@@ -1,7 +1,7 @@
 -- the supertype is none, so the shape decides
 use Rattle.std.proofs.Common.{◌||◌, ap, sym, ◌∙◌}
 use Rattle.std.specs.List.{list_any}
-use Rattle.wt_rules.specs.Rules.{kinded_shape}
+use Rattle.wt_tree.specs.Kinds.{kinded_shape}
 use Rattle.wt_rules.proofs.ModuleReferences.{is_foreign, indices_by_parts}
 use Rattle.wt_rules.proofs.rules.has_foreign.Goals as goal
 
