@@ -3,5 +3,6 @@ pub mod indices
 pub mod holds
 pub mod removal
 pub mod plan
+pub mod subtyping
 pub mod NamedTypes
 pub mod Trampolines

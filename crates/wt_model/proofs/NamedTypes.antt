@@ -7,7 +7,7 @@ use Rattle.wt_env.proofs.lists.Members.{among_before}
 use Rattle.wt_env.specs.declared.types.WasmSubType.{WasmSubType}
 use Rattle.wt_tree.specs.Tree.{Description}
 use Rattle.wt_tree.specs.MapRefs.{map_group_refs}
-use Rattle.wt_rules.proofs.ChangedKinds.{member_kind-changed}
+use Rattle.wt_tree.proofs.ChangedKinds.{member_kind-changed}
 use Rattle.wt_model.specs.Registered.{RegisteredGroup}
 use Rattle.wt_model.specs.NamedTypes.{kind_at, HasPlace, HasKind, NamesKind, NamesTypes}
 
@@ -27,6 +27,7 @@ names_types-before made more described names = record {
   outer = λ at there. has_place-before made more at (names.outer at there);
   own = names.own;
   kinds = λ ty wanted i at there. names_kind-before made more described wanted i (names.kinds ty wanted i at there);
+  supertypes = names.supertypes;
 }
 
 -- a change of references leaves the kinds of members

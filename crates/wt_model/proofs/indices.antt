@@ -4,4 +4,5 @@ pub mod FreshIndices
 pub mod Located
 pub mod Places
 pub mod Rising
+pub mod ShownPlaces
 pub mod TakenIndices

@@ -3,6 +3,7 @@ pub mod Trees
 pub mod NamedTypes
 pub mod Indices
 pub mod Describe
+pub mod Subtyping
 pub mod Trampolines
 pub mod Reach
 pub mod Holds

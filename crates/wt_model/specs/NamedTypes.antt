@@ -7,7 +7,7 @@ use Rattle.wt_env.specs.declared.types.EngineOrModuleTypeIndex.{EngineOrModuleTy
 use Rattle.wt_env.specs.declared.types.EngineOrModuleTypeIndex.TheVariants as index
 use Rattle.wt_env.specs.declared.types.WasmSubType.{WasmSubType}
 use Rattle.wt_tree.specs.Tree.{Description}
-use Rattle.wt_rules.specs.Rules.{member_kind, kinded_refs, type_indices}
+use Rattle.wt_tree.specs.Kinds.{member_kind, kinded_refs, type_indices}
 use Rattle.wt_model.specs.Registered.{RegisteredGroup}
 
 -- the kind of the member at a place, if there is one
@@ -29,12 +29,21 @@ NamesKind made group wanted (index.Engine i) = ⊥
 NamesKind made group wanted (index.Module n) = (at : ℕ × ℕ) × (slice_get group.outer n.0 ≡ Some at) × HasKind made at wanted
 NamesKind made group wanted (index.RecGroup k) = kind_at group.members k ≡ Some wanted
 
+-- The supertype of the member at this place names a type before it: an earlier member of the group, or the type of
+-- another group that the numbered slot tells.
+abbrev pub NamesEarlier : Description → ℕ → EngineOrModuleTypeIndex → Type 0
+NamesEarlier group place (index.Engine i) = ⊥
+NamesEarlier group place (index.Module n) = (at : ℕ × ℕ) × (slice_get group.outer n.0 ≡ Some at)
+NamesEarlier group place (index.RecGroup k) = k < place
+
 -- All that stands in a group names types: each place in another group is one that it has, each place in the group
--- itself, supertypes included, is one that it has, and each reference names a type of the kind that it says.
+-- itself, supertypes included, is one that it has, each reference names a type of the kind that it says, and each
+-- supertype a type before the one that declares it.
 pub record NamesTypes (made : List RegisteredGroup) (group : Description) : Type 0 where
   pub outer : (at : ℕ × ℕ) → Among at group.outer → HasPlace made at
   pub own : (ty : WasmSubType) (k : ℕ) → Among ty group.members → Among (index.RecGroup k) (type_indices ty) → k < length group.members
   pub kinds : (ty : WasmSubType) (wanted : Kind) (i : EngineOrModuleTypeIndex) → Among ty group.members → Among (wanted, i) (kinded_refs ty) → NamesKind made group wanted i
+  pub supertypes : (place : ℕ) (ty : WasmSubType) (i : EngineOrModuleTypeIndex) → slice_get group.members place ≡ Some ty → ty.supertype ≡ Some i → NamesEarlier group place i
 
 -- each registered group names types that are registered
 abbrev pub NameTypes : List RegisteredGroup → Type 0

@@ -1,5 +1,6 @@
 -- What is reached from what is held or waits, and what a drop, a sweep and a release leave of it.
 use Rattle.std.specs.Prelude.{ℕ, ◌-◌, ◌==◌, List, [], ◌∷◌, length, slice_index, slice_set, Bool, true, false, ◌||◌, ◌&&◌, if◌then◌else◌, Option, Some, None}
+use Rattle.std.specs.List.{filter}
 use Rattle.wt_model.specs.Registered.{RegisteredGroup, GroupHolds, Registry}
 use Rattle.wt_model.specs.Holds.{is_held, waits_at, change, no_longer, is_registered}
 use Rattle.wt_model.specs.Reach.{leads_to}
@@ -23,13 +24,11 @@ is_reached (made ∷ rest) root number = is_reached rest root number || (leads_t
 
 -- the groups whose numbers pass
 abbrev pub kept_made : (ℕ → Bool) → List RegisteredGroup → List RegisteredGroup
-kept_made keep [] = []
-kept_made keep (made ∷ rest) = if keep made.number then made ∷ kept_made keep rest else kept_made keep rest
+kept_made keep made = filter (λ m. keep m.number) made
 
 -- what keeps those
 abbrev pub kept_standings : (ℕ → Bool) → List GroupHolds → List GroupHolds
-kept_standings keep [] = []
-kept_standings keep (standing ∷ rest) = if keep standing.number then standing ∷ kept_standings keep rest else kept_standings keep rest
+kept_standings keep standings = filter (λ s. keep s.number) standings
 
 -- which groups of a registry are reached
 abbrev pub reached_in : Registry → ℕ → Bool

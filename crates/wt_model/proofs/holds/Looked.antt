@@ -1,11 +1,13 @@
 -- What is looked up by a number in the counts, where one group's are changed and where some are kept.
 use Rattle.std.proofs.Common.{◌≡◌, ◌≢◌, ℕ, zero, suc, ◌+◌, ◌-◌, ◌<◌, ◌≤◌, ◌==◌, ◌⊎◌, inl, inr, Bool, true, false, cond, ◌||◌, List, [], ◌∷◌, length, map, slice_index, slice_set, nat_lt, refl, sym, ap, ◌∙◌, arith}
+use Rattle.std.specs.List.{filter}
 use Rattle.std.proofs.lemmas.Bool.{false≢true, or_left, or_right, false_from_ne_true, cond-true, cond-false}
 use Rattle.wt_model.specs.Registered.{RegisteredGroup, GroupHolds}
 use Rattle.wt_env.specs.Among.{Among}
 use Rattle.wt_model.specs.Holds.{is_held, held_at, change, gained}
 use Rattle.wt_model.specs.Removal.{is_rooted, is_root, kept_made, kept_standings, fewer, now_waits}
 use Rattle.wt_model.specs.Holds.{no_longer}
+use Rattle.wt_env.proofs.lists.Filtered.{among_filter, map_filter}
 use Rattle.wt_model.proofs.holds.Leads.{or_either}
 use Rattle.wt_model.proofs.holds.Standings.{is_held-raised}
 
@@ -31,43 +33,13 @@ same_number n m h = grind (arith, h)
 -- ---- some are kept
 
 pub among-kept_standings : (keep : ℕ → Bool) (standings : List GroupHolds) (s : GroupHolds) → Among s (kept_standings keep standings) → Among s standings
-among-kept_standings keep [] s at = absurd at
-among-kept_standings keep (x ∷ standings) s at = by (keep x.number) at (among-kept_standings keep standings s)
-  where
-    by : (b : Bool) → Among s (cond b (x ∷ kept_standings keep standings) (kept_standings keep standings))
-        → (Among s (kept_standings keep standings) → Among s standings) → (s ≡ x) ⊎ Among s standings
-    by true (inl same) later = inl same
-    by true (inr there) later = inr (later there)
-    by false there later = inr (later there)
-
-abbrev kept_numbers : (ℕ → Bool) → List ℕ → List ℕ
-kept_numbers keep [] = []
-kept_numbers keep (n ∷ rest) = cond (keep n) (n ∷ kept_numbers keep rest) (kept_numbers keep rest)
-
-standings-numbers : (keep : ℕ → Bool) (standings : List GroupHolds) → map (λ s. s.number) (kept_standings keep standings) ≡ kept_numbers keep (map (λ s. s.number) standings)
-standings-numbers keep [] = refl
-standings-numbers keep (x ∷ standings) = by (keep x.number) (standings-numbers keep standings)
-  where
-    by : (b : Bool) → map (λ s. s.number) (kept_standings keep standings) ≡ kept_numbers keep (map (λ s. s.number) standings)
-        → map (λ s. s.number) (cond b (x ∷ kept_standings keep standings) (kept_standings keep standings))
-        ≡ cond b (x.number ∷ kept_numbers keep (map (λ s. s.number) standings)) (kept_numbers keep (map (λ s. s.number) standings))
-    by true later = ap (λ numbers. x.number ∷ numbers) later
-    by false later = later
-
-made-numbers : (keep : ℕ → Bool) (made : List RegisteredGroup) → map (λ m. m.number) (kept_made keep made) ≡ kept_numbers keep (map (λ m. m.number) made)
-made-numbers keep [] = refl
-made-numbers keep (x ∷ made) = by (keep x.number) (made-numbers keep made)
-  where
-    by : (b : Bool) → map (λ m. m.number) (kept_made keep made) ≡ kept_numbers keep (map (λ m. m.number) made)
-        → map (λ m. m.number) (cond b (x ∷ kept_made keep made) (kept_made keep made))
-        ≡ cond b (x.number ∷ kept_numbers keep (map (λ m. m.number) made)) (kept_numbers keep (map (λ m. m.number) made))
-    by true later = ap (λ numbers. x.number ∷ numbers) later
-    by false later = later
+among-kept_standings keep standings s at = (among_filter (λ t. keep t.number) standings s at).0
 
 -- the counts that are kept stand under the numbers of the groups that are
 pub numbers-kept : (keep : ℕ → Bool) (made : List RegisteredGroup) (standings : List GroupHolds) → map (λ s. s.number) standings ≡ map (λ m. m.number) made
     → map (λ s. s.number) (kept_standings keep standings) ≡ map (λ m. m.number) (kept_made keep made)
-numbers-kept keep made standings same = standings-numbers keep standings ∙ (ap (kept_numbers keep) same ∙ sym (made-numbers keep made))
+numbers-kept keep made standings same =
+    map_filter (λ (s : GroupHolds). s.number) keep standings ∙ (ap (filter keep) same ∙ sym (map_filter (λ (m : RegisteredGroup). m.number) keep made))
 
 other_number : (keep : ℕ → Bool) (b : Bool) (m n : ℕ) → keep m ≡ b → keep n ≡ true → b ≡ false → (m == n) ≡ false
 other_number keep b m n e passes is =

@@ -31,7 +31,7 @@ own_index i = own i.0
     own : (n : ℕ) → (n == n) ≡ true
     own n = grind arith
 
-place_in-get : (indices : List VMSharedTypeIndex) (i : VMSharedTypeIndex) (place : ℕ) → place_in i indices ≡ Some place → slice_get indices place ≡ Some i
+pub place_in-get : (indices : List VMSharedTypeIndex) (i : VMSharedTypeIndex) (place : ℕ) → place_in i indices ≡ Some place → slice_get indices place ≡ Some i
 place_in-get indices i place is =
     let found = found_from (λ (j : VMSharedTypeIndex). j.0 == i.0) 0 place indices is in
     let at : length found.passed ≡ place = omega (arith, found.place) in

@@ -1,5 +1,5 @@
 -- Where the groups whose numbers pass are kept, and what they name passes: what is true of them stays true.
-use Rattle.std.proofs.Common.{◌≡◌, ℕ, ◌<◌, ◌≤◌, ◌==◌, ◌⊎◌, inl, inr, Bool, true, false, cond, ◌||◌, ◌&&◌, List, [], ◌∷◌, length, map, Option, Some, None, refl, sym, ap, ◌∙◌, arith}
+use Rattle.std.proofs.Common.{◌≡◌, ℕ, ◌<◌, ◌≤◌, ◌==◌, inl, inr, Bool, true, false, cond, ◌||◌, ◌&&◌, List, [], ◌∷◌, map, Option, Some, None, refl, sym, ap, ◌∙◌, arith}
 use Rattle.std.specs.List.{filter_map}
 use Rattle.std.proofs.lemmas.Bool.{false≢true, or_left, false_from_ne_true, cond-false}
 use Rattle.wt_env.specs.declared.types.VMSharedTypeIndex.{VMSharedTypeIndex}
@@ -19,6 +19,7 @@ use Rattle.wt_model.specs.Indices.{place_in, located_here, locate}
 use Rattle.wt_model.specs.Sound.{IsRising, OneIndexPerTree, NamesOlder, IsLocated, AreIndexed, AreBelow}
 use Rattle.wt_model.specs.Reach.{edges, leads_to, Reach, here, further}
 use Rattle.wt_model.specs.Removal.{is_reached, kept_made}
+use Rattle.wt_env.proofs.lists.Filtered.{among_filter, filter_among}
 use Rattle.wt_env.proofs.lists.Mapped.{among_mapped}
 use Rattle.wt_env.proofs.lists.Members.{get_among, among_before, among_behind, some_same}
 use Rattle.wt_model.proofs.holds.Leads.{reach_wider}
@@ -38,33 +39,10 @@ led-named keep made led a reference at passes refers = led a reference.0 at pass
 -- ---- which are kept
 
 pub among-kept : (keep : ℕ → Bool) (made : List RegisteredGroup) (m : RegisteredGroup) → Among m (kept_made keep made) → Among m made × (keep m.number ≡ true)
-among-kept keep [] m at = absurd at
-among-kept keep (x ∷ made) m at = by (keep x.number) refl at (among-kept keep made m)
-  where
-    by : (b : Bool) → keep x.number ≡ b → Among m (cond b (x ∷ kept_made keep made) (kept_made keep made))
-        → (Among m (kept_made keep made) → Among m made × (keep m.number ≡ true)) → ((m ≡ x) ⊎ Among m made) × (keep m.number ≡ true)
-    by true e (inl same) later = (inl same, ap (λ (y : RegisteredGroup). keep y.number) same ∙ e)
-    by true e (inr there) later = let found = later there in (inr found.0, found.1)
-    by false e there later = let found = later there in (inr found.0, found.1)
+among-kept keep made m at = among_filter (λ x. keep x.number) made m at
 
 pub kept-among : (keep : ℕ → Bool) (made : List RegisteredGroup) (m : RegisteredGroup) → Among m made → keep m.number ≡ true → Among m (kept_made keep made)
-kept-among keep [] m at passes = absurd at
-kept-among keep (x ∷ made) m at passes = by (keep x.number) refl at (λ there. kept-among keep made m there passes)
-  where
-    by : (b : Bool) → keep x.number ≡ b → (m ≡ x) ⊎ Among m made → (Among m made → Among m (kept_made keep made))
-        → Among m (cond b (x ∷ kept_made keep made) (kept_made keep made))
-    by true e (inl same) later = inl same
-    by true e (inr there) later = inr (later there)
-    by false e (inl same) later = absurd (false≢true (sym e ∙ (ap (λ (y : RegisteredGroup). keep y.number) (sym same) ∙ passes)))
-    by false e (inr there) later = later there
-
-pub length-kept : (keep : ℕ → Bool) (made : List RegisteredGroup) → length (kept_made keep made) ≤ length made
-length-kept keep [] = omega arith
-length-kept keep (x ∷ made) = by (keep x.number) (length-kept keep made)
-  where
-    by : (b : Bool) → length (kept_made keep made) ≤ length made → length (cond b (x ∷ kept_made keep made) (kept_made keep made)) ≤ length (x ∷ made)
-    by true shorter = omega arith
-    by false shorter = omega arith
+kept-among keep made m at passes = filter_among (λ x. keep x.number) made m at passes
 
 -- ---- numbers and references
 
@@ -209,6 +187,7 @@ names_types-kept keep made described passes names = record {
   outer = λ at there. has_place-kept keep made at (passes at there) (names.outer at there);
   own = names.own;
   kinds = λ ty wanted i at there. names_kind-kept keep made described wanted i passes (names.kinds ty wanted i at there);
+  supertypes = names.supertypes;
 }
 
 pub name_types-kept : (keep : ℕ → Bool) (made : List RegisteredGroup) → KeepsNamed keep made → NameTypes made → NameTypes (kept_made keep made)

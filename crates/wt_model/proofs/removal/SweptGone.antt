@@ -8,10 +8,10 @@ use Rattle.wt_model.specs.Reach.{Reach}
 use Rattle.wt_model.specs.Removal.{is_rooted, is_root, is_reached, kept_made, swept_part}
 use Rattle.wt_model.specs.Sound.{HoldsInvariant}
 use Rattle.wt_model.specs.Holds.{no_longer}
+use Rattle.wt_env.proofs.lists.Filtered.{filter_shorter}
 use Rattle.wt_env.proofs.lists.Mapped.{among_map, among_mapped}
 use Rattle.wt_model.proofs.holds.Leads.{reached-leads}
 use Rattle.wt_model.proofs.holds.Rooted.{waits_at-stands}
-use Rattle.wt_model.proofs.removal.KeptPart.{length-kept}
 use Rattle.wt_model.proofs.holds.Looked.{root-less, rooted-no_longer}
 
 differ : (n m : ℕ) → (n == m) ≡ false → n ≢ m
@@ -86,7 +86,7 @@ fewer-kept keep (x ∷ made) m at leaves = by (keep x.number) refl at (λ there.
         → length (cond b (x ∷ kept_made keep made) (kept_made keep made)) < length (x ∷ made)
     by true e (inl same) later = absurd (stays e same)
     by true e (inr there) later = let less = later there in omega (arith, less)
-    by false e at later = let short = length-kept keep made in omega (arith, short)
+    by false e at later = let short = filter_shorter (λ (m : RegisteredGroup). keep m.number) made in omega (arith, short)
 
 -- so that at least one group leaves
 pub swept-some : (registry : Registry) (number : ℕ) → HoldsInvariant registry.engine registry.made registry.standings → waits_at registry.standings number ≡ true

@@ -1,5 +1,5 @@
 -- The closed trees of a list of indices, where they are known.
-use Rattle.std.proofs.Common.{◌≡◌, ℕ, suc, ◌+◌, List, [], ◌∷◌, length, map, slice_get, Option, Some, None, option_map, inl, inr, refl, sym, ap, ◌∙◌, arith}
+use Rattle.std.proofs.Common.{◌≡◌, ℕ, suc, ◌+◌, List, [], ◌∷◌, length, map, slice_get, Option, Some, None, is_some, option_map, inl, inr, refl, sym, ap, ◌∙◌, arith}
 use Rattle.std.proofs.lemmas.Option.{slice_get-map}
 use Rattle.wt_env.specs.declared.types.VMSharedTypeIndex.{VMSharedTypeIndex}
 use Rattle.wt_tree.specs.Tree.{Tree, ClosedTree}
@@ -73,3 +73,11 @@ trees-at made indices known k i is at =
     by : (found : Option ClosedTree) → option_map Some found ≡ Some (closed_tree made i) → found ≡ closed_tree made i
     by None h = absurd (cc)
     by (Some closed) h = some_same h
+
+pub is_some-map : {A B : Type 0} (f : A → B) (o : Option A) → is_some (option_map f o) ≡ is_some o
+is_some-map f (Some x) = refl
+is_some-map f None = refl
+
+-- an index has a closed tree exactly where it is located
+pub closed-located : (made : List RegisteredGroup) (i : VMSharedTypeIndex) → is_some (closed_tree made i) ≡ is_some (locate made i)
+closed-located made i = is_some-map (λ (at : ℕ × ℕ). let t : ClosedTree = record { tree = trees made at.0; place = at.1 } in t) (locate made i)

@@ -1,0 +1,3 @@
+pub mod NamedIndices
+pub mod ShownTypes
+pub mod TypeMaps
