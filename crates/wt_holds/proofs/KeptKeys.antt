@@ -1,6 +1,6 @@
 -- What is true of the keys of all registered groups stays true of those that are kept, where what they lead to is
 -- kept.
-use Rattle.std.proofs.Common.{◌≡◌, ℕ, ◌≤◌, ◌⊎◌, inl, inr, Bool, true, false, cond, List, [], ◌∷◌, length, map, Some, refl, sym, ap, subst, ◌∙◌, arith}
+use Rattle.std.proofs.Common.{◌≡◌, ℕ, inl, inr, Bool, true, List, [], ◌∷◌, map, Some, refl, sym, subst, ◌∙◌}
 use Rattle.wt_env.specs.declared.types.EngineOrModuleTypeIndex.{EngineOrModuleTypeIndex}
 use Rattle.wt_env.specs.declared.types.EngineOrModuleTypeIndex.TheVariants as index
 use Rattle.wt_tree.specs.References.{group_refs}
@@ -14,31 +14,12 @@ use Rattle.wt_model.specs.Removal.{kept_made}
 use Rattle.wt_keys.specs.Keys.{named_at, IsKey, AreApartTrees, AreKeys}
 use Rattle.wt_keys.specs.Keys.{AreShown}
 use Rattle.wt_holds.specs.Marks.{kept_entries}
+use Rattle.wt_env.proofs.lists.Filtered.{among_filter}
 use Rattle.wt_env.proofs.lists.Mapped.{among_mapped}
 use Rattle.wt_model.proofs.removal.KeptPart.{KeepsLed, KeepsNamed, led-named, among-kept, kept-among, rising-kept, trees-kept, locate-kept, is_located-kept, names_types-kept, have_trampolines-kept}
 use Rattle.wt_keys.proofs.KeyTrampolines.{have_trampolines}
 use Rattle.wt_env.proofs.lists.Members.{first_same, rest_same}
-use Rattle.wt_holds.proofs.marks.Marked.{entries-marked}
-
--- ---- which are kept
-
-among-kept_entries : (keep : ℕ → Bool) (entries : List RecGroupEntry) (entry : RecGroupEntry) → Among entry (kept_entries keep entries) → Among entry entries × (keep entry.number ≡ true)
-among-kept_entries keep [] entry at = absurd at
-among-kept_entries keep (x ∷ entries) entry at = by (keep x.number) refl at (among-kept_entries keep entries entry)
-  where
-    by : (b : Bool) → keep x.number ≡ b → Among entry (cond b (x ∷ kept_entries keep entries) (kept_entries keep entries))
-        → (Among entry (kept_entries keep entries) → Among entry entries × (keep entry.number ≡ true)) → ((entry ≡ x) ⊎ Among entry entries) × (keep entry.number ≡ true)
-    by true e (inl same) later = (inl same, ap (λ (y : RecGroupEntry). keep y.number) same ∙ e)
-    by true e (inr there) later = let found = later there in (inr found.0, found.1)
-    by false e there later = let found = later there in (inr found.0, found.1)
-
-pub length-kept_entries : (keep : ℕ → Bool) (entries : List RecGroupEntry) → length (kept_entries keep entries) ≤ length entries
-length-kept_entries keep [] = omega arith
-length-kept_entries keep (x ∷ entries) = by (keep x.number) (length-kept_entries keep entries)
-  where
-    by : (b : Bool) → length (kept_entries keep entries) ≤ length entries → length (cond b (x ∷ kept_entries keep entries) (kept_entries keep entries)) ≤ length (x ∷ entries)
-    by true shorter = omega arith
-    by false shorter = omega arith
+use Rattle.wt_holds.proofs.marks.Marked.{made-kept}
 
 -- ---- references still name what they did
 
@@ -80,7 +61,7 @@ pub keys-kept : (keep : ℕ → Bool) (entries : List RecGroupEntry) (top : ℕ)
 keys-kept keep entries top keys led = record {
   rising = subst (λ (made : List RegisteredGroup). IsRising 0 made top) (sym same) (rising-kept keep 0 top (made_by entries) keys.rising);
   keys = λ entry at.
-      let found = among-kept_entries keep entries entry at in
+      let found = among_filter (λ (e : RecGroupEntry). keep e.number) entries entry at in
       subst (λ (made : List RegisteredGroup). IsKey made entry) (sym same)
       (key-kept keep (made_by entries) entry (λ reference refers. named (made_of entry) reference (among_mapped made_of entries entry found.0) found.1 refers) (tell entry found.0 found.1) (keys.keys entry found.0));
   located = subst IsLocated (sym same) (is_located-kept keep (made_by entries) keys.located);
@@ -88,7 +69,7 @@ keys-kept keep entries top keys led = record {
 }
   where
     same : made_by (kept_entries keep entries) ≡ kept_made keep (made_by entries)
-    same = entries-marked keep entries
+    same = made-kept keep entries
 
     named : KeepsNamed keep (made_by entries)
     named = led-named keep (made_by entries) led
@@ -100,4 +81,4 @@ keys-kept keep entries top keys led = record {
         (kept-among keep (made_by entries) (made_of entry) (among_mapped made_of entries entry at) passes)
 
 pub shown-kept : (keep : ℕ → Bool) (entries : List RecGroupEntry) → AreShown entries → AreShown (kept_entries keep entries)
-shown-kept keep entries shown entry at = shown entry (among-kept_entries keep entries entry at).0
+shown-kept keep entries shown entry at = shown entry (among_filter (λ (e : RecGroupEntry). keep e.number) entries entry at).0

@@ -13,8 +13,9 @@ use Rattle.wt_holds.specs.Marks.{kept_entries}
 use Rattle.wt_model.specs.Registered.{GroupHolds, Registry}
 use Rattle.wt_model.specs.Removal.{reached_in, reached_part}
 use Rattle.wt_model.specs.Sound.{AreBelow, HoldsInvariant}
+use Rattle.wt_env.proofs.lists.Filtered.{filter_shorter}
 use Rattle.wt_keys.proofs.AddedKeys.{names_older}
-use Rattle.wt_holds.proofs.KeptKeys.{length-kept_entries, keys-kept, shown-kept}
+use Rattle.wt_holds.proofs.KeptKeys.{keys-kept, shown-kept}
 use Rattle.wt_model.proofs.removal.KeptPart.{KeepsLed, below-kept}
 use Rattle.wt_model.proofs.removal.Removing.{part-led}
 
@@ -33,7 +34,7 @@ part-keeps engine groups after standings kept part entries marks stands = record
       (subst (λ (g : EverRegistered). AreKeys (kept_entries keep old) g.numbers) given (keys-kept keep old groups.given.numbers kept.keys led));
   shown = subst AreShown (sym entries) (shown-kept keep old kept.shown);
   within =
-      let few = length-kept_entries keep old in
+      let few = filter_shorter (λ (e : RecGroupEntry). keep e.number) old in
       let same = ap length entries in
       let before = kept.within in
       omega (arith, few, same, before);

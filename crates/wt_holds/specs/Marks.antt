@@ -1,9 +1,9 @@
 -- Marks beside the groups.
 use Rattle.std.specs.Prelude.{ℕ, List, [], ◌∷◌, map, Bool, false, ◌||◌, ◌&&◌, if◌then◌else◌}
+use Rattle.std.specs.List.{filter}
 use Rattle.wt_model.specs.Registered.{RegisteredGroup}
 use Rattle.wt_model.specs.Reach.{leads_to}
 use Rattle.wt_keys.specs.declared.entry.RecGroupEntry.{RecGroupEntry}
-use Rattle.wt_keys.specs.Entries.{made_by}
 
 -- what a test says of each group's number
 abbrev pub marked : (ℕ → Bool) → List RegisteredGroup → List Bool
@@ -23,4 +23,4 @@ marked_items (mark ∷ marks) (item ∷ items) = if mark then item ∷ marked_it
 
 -- the entries of the groups whose numbers pass
 abbrev pub kept_entries : (ℕ → Bool) → List RecGroupEntry → List RecGroupEntry
-kept_entries keep entries = marked_items (marked keep (made_by entries)) entries
+kept_entries keep entries = filter (λ entry. keep entry.number) entries

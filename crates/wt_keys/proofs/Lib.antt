@@ -5,5 +5,6 @@ pub mod KeyTrampolines
 pub mod NamedByKeys
 pub mod NewKeys
 pub mod ShownIndices
+pub mod Supertypes
 pub mod TrampolineIndices
 pub mod UsedIndices

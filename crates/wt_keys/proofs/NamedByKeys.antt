@@ -1,6 +1,6 @@
 -- Where the types of a key name types, by engine indices and places of their own, so does the description of the
 -- key, by numbered slots.
-use Rattle.std.proofs.Common.{◌≡◌, ℕ, ◌<◌, true, List, length, slice_get, Option, Some, None, option_map, unwrap_or, refl, sym, ap, subst, ◌∙◌, arith}
+use Rattle.std.proofs.Common.{◌≡◌, ℕ, zero, suc, ◌+◌, ◌<◌, true, List, [], ◌∷◌, length, slice_get, Option, Some, None, option_map, unwrap_or, refl, sym, ap, subst, ◌∙◌, arith}
 use Rattle.std.proofs.lemmas.Bool.{false≢true}
 use Rattle.std.proofs.lemmas.Option.{slice_get-map, slice_get_within}
 use Rattle.wt_env.specs.Among.{Among}
@@ -12,20 +12,20 @@ use Rattle.wt_env.specs.declared.types.EngineOrModuleTypeIndex.TheVariants as in
 use Rattle.wt_env.specs.declared.types.WasmSubType.{WasmSubType}
 use Rattle.wt_env.proofs.lists.Mapped.{among_map, among_mapped}
 use Rattle.wt_env.proofs.lists.Members.{some_same}
-use Rattle.wt_tree.specs.References.{number_group, group_refs}
+use Rattle.wt_tree.specs.References.{number_index, number_group_from, number_group, sub_refs, group_refs}
 use Rattle.wt_tree.specs.MapRefs.{LeavesOwn, leaves_group, map_sub_refs, map_group_refs, fill_index}
 use Rattle.wt_tree.specs.Tree.{Description}
 use Rattle.wt_tree.proofs.Leaving.{leaves_own, number_group-over}
 use Rattle.wt_tree.proofs.Numbering.{refill_group, length-number_group}
-use Rattle.wt_rules.specs.Rules.{kinded_refs, type_indices}
-use Rattle.wt_rules.proofs.ChangedKinds.{kinded_refs-changed, type_indices-changed}
+use Rattle.wt_tree.specs.Kinds.{kinded_refs, type_indices}
+use Rattle.wt_tree.proofs.ChangedKinds.{kinded_refs-changed, type_indices-changed}
 use Rattle.wt_model.specs.Registered.{RegisteredGroup}
 use Rattle.wt_model.specs.Indices.{locate}
-use Rattle.wt_model.specs.NamedTypes.{kind_at, HasPlace, NamesKind, NamesTypes}
+use Rattle.wt_model.specs.NamedTypes.{kind_at, HasPlace, NamesKind, NamesEarlier, NamesTypes}
 use Rattle.wt_model.specs.Sound.{AreIndexed}
 use Rattle.wt_model.proofs.NamedTypes.{kind_at-changed}
 use Rattle.wt_model.proofs.indices.Places.{locate-at}
-use Rattle.wt_keys.specs.Keys.{named_at, ResolvesTo, KeyNamesKind, KeyNamesTypes}
+use Rattle.wt_keys.specs.Keys.{named_at, ResolvesTo, KeyNamesKind, KeyNamesEarlier, KeyNamesTypes}
 
 -- ---- the numbered members, with their slots filled in
 
@@ -34,6 +34,14 @@ filled : (types : List WasmSubType) (ty : WasmSubType) → Among ty (number_grou
 filled types ty at =
     let fill = fill_index (group_refs types) in
     subst (Among (map_sub_refs fill ty)) (refill_group types) (among_mapped (map_sub_refs fill) (number_group types) ty at)
+
+-- and so at its place
+filled_at : (types : List WasmSubType) (place : ℕ) (ty : WasmSubType) → slice_get (number_group types) place ≡ Some ty → slice_get types place ≡ Some (map_sub_refs (fill_index (group_refs types)) ty)
+filled_at types place ty is =
+    let fill = fill_index (group_refs types) in
+    ap (λ (ts : List WasmSubType). slice_get ts place) (sym (refill_group types))
+    ∙ slice_get-map (map_sub_refs fill) (number_group types) place
+    ∙ ap (option_map (map_sub_refs fill)) is
 
 kinded-changed : (f : EngineOrModuleTypeIndex → EngineOrModuleTypeIndex) (ty : WasmSubType) (wanted : Kind) (i : EngineOrModuleTypeIndex) → Among (wanted, i) (kinded_refs ty) → Among (wanted, f i) (kinded_refs (map_sub_refs f ty))
 kinded-changed f ty wanted i at =
@@ -76,6 +84,18 @@ no_engine types ty wanted i at there =
     let from = among_map (λ (r : Kind × EngineOrModuleTypeIndex). (r.0, without_engine r.1)) (kinded_refs source.0) (wanted, index.Engine i) (subst (Among (wanted, index.Engine i)) (kinded_refs-changed without_engine source.0) changed) in
     never_engine i (from.0).1 (ap (λ (r : Kind × EngineOrModuleTypeIndex). r.1) from.2)
 
+never_numbered : (n : ℕ) (super : Option EngineOrModuleTypeIndex) (i : VMSharedTypeIndex) → option_map (number_index n) super ≡ Some (index.Engine i) → ⊥
+never_numbered n None i is = absurd (cc)
+never_numbered n (Some (index.Engine j)) i is = absurd (cc)
+never_numbered n (Some (index.Module j)) i is = absurd (cc)
+never_numbered n (Some (index.RecGroup k)) i is = absurd (cc)
+
+-- nor is it a supertype there
+no_engine_super : (n : ℕ) (types : List WasmSubType) (place : ℕ) (ty : WasmSubType) (i : VMSharedTypeIndex) → slice_get (number_group_from n types) place ≡ Some ty → ty.supertype ≡ Some (index.Engine i) → ⊥
+no_engine_super n [] place ty i at is = absurd (cc)
+no_engine_super n (t ∷ types) zero ty i at is = never_numbered n t.supertype i (ap (λ (member : WasmSubType). member.supertype) (some_same at) ∙ is)
+no_engine_super n (t ∷ types) (suc place) ty i at is = no_engine_super (n + length (sub_refs t)) types place ty i at is
+
 -- ---- what leaves a key
 
 -- what a reference of a key that leaves it names is the entry of outer with its number
@@ -94,6 +114,10 @@ slot_found (Some o) named at is names = some_same is ∙ names
 slot_missing : (found named : Option (ℕ × ℕ)) → option_map Some found ≡ Some named → named ≡ None → ⊥
 slot_missing None named is none = absurd (cc)
 slot_missing (Some o) named is none = absurd (cc)
+
+slot_there : (found named : Option (ℕ × ℕ)) → option_map Some found ≡ Some named → (at : ℕ × ℕ) × (found ≡ Some at)
+slot_there None named is = absurd (cc)
+slot_there (Some at) named is = (at, refl)
 
 located_place : (made : List RegisteredGroup) (x : EngineOrModuleTypeIndex) (at : ℕ × ℕ) → AreIndexed made → named_at made x ≡ Some at → HasPlace made at
 located_place made (index.Engine i) at indexed is =
@@ -142,5 +166,21 @@ module _ (made : List RegisteredGroup) (types : List WasmSubType) (outer : List 
       let fill = fill_index (group_refs types) in
       kind_at-numbered types k ∙ key.kinds (map_sub_refs fill ty) wanted (index.RecGroup k) (filled types ty at) (kinded-changed fill ty wanted (index.RecGroup k) there)
 
+  slot_earlier : (place : ℕ) (n : ModuleInternedTypeIndex) (found : Option EngineOrModuleTypeIndex) → slice_get (group_refs types) n.0 ≡ found
+      → KeyNamesEarlier place (unwrap_or found (index.Module n)) → NamesEarlier described place (index.Module n)
+  slot_earlier place n None is earlier = absurd earlier
+  slot_earlier place n (Some r) is earlier = slot_there (slice_get outer n.0) (named_at made r) (slot_at made types outer n.0 r names is)
+
+  -- the supertype of a numbered member is the numbered supertype of the key's member there
+  super_filled : (place : ℕ) (ty : WasmSubType) (i : EngineOrModuleTypeIndex) → slice_get (number_group types) place ≡ Some ty → ty.supertype ≡ Some i → KeyNamesEarlier place (fill_index (group_refs types) i)
+  super_filled place ty i at is =
+      let fill = fill_index (group_refs types) in
+      key.supertypes place (map_sub_refs fill ty) (fill i) (filled_at types place ty at) (ap (option_map fill) is)
+
+  supertypes_named : (place : ℕ) (ty : WasmSubType) (i : EngineOrModuleTypeIndex) → slice_get (number_group types) place ≡ Some ty → ty.supertype ≡ Some i → NamesEarlier described place i
+  supertypes_named place ty (index.Engine i) at is = absurd (no_engine_super 0 types place ty i at is)
+  supertypes_named place ty (index.Module n) at is = slot_earlier place n (slice_get (group_refs types) n.0) refl (super_filled place ty (index.Module n) at is)
+  supertypes_named place ty (index.RecGroup k) at is = super_filled place ty (index.RecGroup k) at is
+
   pub names_types-key : AreIndexed made → NamesTypes made described
-  names_types-key indexed = record { outer = outer_places made types outer indexed names; own = own_places; kinds = kinds_named }
+  names_types-key indexed = record { outer = outer_places made types outer indexed names; own = own_places; kinds = kinds_named; supertypes = supertypes_named }

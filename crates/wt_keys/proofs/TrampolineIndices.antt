@@ -1,6 +1,6 @@
 -- The index of the trampoline of a function type: it is told at the entry of the type, the trampoline of a
 -- trampoline is itself, and exactly the functions have one.
-use Rattle.std.proofs.Common.{◌≡◌, ℕ, zero, suc, ◌+◌, ◌<◌, ◌==◌, Bool, true, false, cond, ◌&&◌, List, [], ◌∷◌, length, slice_get, Option, Some, None, is_some, is_none, option_map, option_and_then, unwrap_or, refl, sym, ap, subst, ◌∙◌, arith}
+use Rattle.std.proofs.Common.{◌≡◌, ℕ, zero, suc, ◌+◌, ◌==◌, Bool, true, false, cond, ◌&&◌, List, [], ◌∷◌, length, slice_get, Option, Some, None, is_some, is_none, option_map, option_and_then, unwrap_or, refl, sym, ap, subst, ◌∙◌, arith}
 use Rattle.std.specs.List.{find}
 use Rattle.std.proofs.lemmas.Bool.{false≢true}
 use Rattle.std.proofs.lemmas.Option.{slice_get_within, option_and_then_some}
@@ -12,11 +12,12 @@ use Rattle.wt_env.specs.declared.types.WasmSubType.{WasmSubType}
 use Rattle.wt_env.proofs.lists.Mapped.{among_map, among_mapped}
 use Rattle.wt_env.proofs.lists.Members.{some_same, find-found, find-map}
 use Rattle.wt_tree.specs.References.{sub_refs, number_sub, number_group_from}
-use Rattle.wt_tree.specs.Tree.{Description, Tree, ClosedTree, tree_eq}
-use Rattle.wt_tree.specs.Trampoline.{trampoline_member, trampoline_tree, trampoline_of_shape, is_erased_shape, is_own_trampoline, other_trampoline, members_of, trampoline_at, trampoline}
+use Rattle.wt_tree.specs.Tree.{Description, Tree, ClosedTree, tree_eq, members_of}
+use Rattle.wt_tree.specs.Trampoline.{trampoline_member, trampoline_tree, trampoline_of_shape, is_erased_shape, is_own_trampoline, other_trampoline, trampoline_at, trampoline}
 use Rattle.wt_tree.proofs.Trampolines.{trampoline-once, is_own_trampoline-numbered}
 use Rattle.wt_tree.proofs.TreeEquality.{tree_eq-decides}
-use Rattle.wt_rules.specs.Rules.{kind_of, is_function_kind}
+use Rattle.wt_tree.specs.Kinds.{kind_of}
+use Rattle.wt_rules.specs.Rules.{is_function_kind}
 use Rattle.wt_model.specs.Registered.{RegisteredGroup}
 use Rattle.wt_model.specs.Trees.{trees}
 use Rattle.wt_model.specs.Indices.{locate, closed_tree}
@@ -26,6 +27,7 @@ use Rattle.wt_model.proofs.Trampolines.{ToldAt, tell-at}
 use Rattle.wt_model.proofs.indices.Places.{locate-at}
 use Rattle.wt_model.proofs.trees.Trees.{trees-registered}
 use Rattle.wt_model.proofs.indices.Rising.{one_number}
+use Rattle.wt_model.proofs.subtyping.NamedIndices.{get_within}
 use Rattle.wt_keys.specs.declared.entry.RecGroupEntry.{RecGroupEntry}
 use Rattle.wt_keys.specs.Entries.{made_of, made_by}
 use Rattle.wt_keys.specs.Keys.{AreKeys}
@@ -118,11 +120,6 @@ numbered-at (t ∷ types) (suc place) from ty is =
     let rest = numbered-at types place (from + length (sub_refs t)) ty is in
     record { start = rest.start; is = rest.is }
 
-get-within : {A : Type 0} (xs : List A) (k : ℕ) → k < length xs → (x : A) × (slice_get xs k ≡ Some x)
-get-within [] k below = absurd (omega (arith, below))
-get-within (x ∷ xs) zero below = (x, refl)
-get-within (x ∷ xs) (suc k) below = get-within xs k (omega (arith, below))
-
 -- ---- what is told
 
 -- the first index of the entry with this number
@@ -181,7 +178,7 @@ member-at entries top entry place i has =
     let index : slice_get entry.shared_type_indices place ≡ Some i = ap (λ (m : RegisteredGroup). slice_get m.indices place) (sym same) ∙ here.place in
     let below = slice_get_within entry.shared_type_indices place i index in
     let long = (has.keys.keys entry has.among).members in
-    let member = get-within entry.hash_consing_key.types place (omega (arith, below, long)) in
+    let member = get_within entry.hash_consing_key.types place (omega (arith, below, long)) in
     let numbered = numbered-at entry.hash_consing_key.types place 0 member.0 member.1 in
     record { ty = member.0; start = numbered.start; key = member.1; numbered = numbered.is; index = index }
 
@@ -316,7 +313,7 @@ first-alone entries top keys m n tells =
     let same = one_number 0 top (made_by entries) found.0 tells.0 keys.rising found.2 tells.1 (found.3 ∙ sym tells.2) in
     let long = indexed entries top keys found.0 found.2 in
     let one : length (found.0).description.members ≡ 1 = ap (λ (g : RegisteredGroup). length g.description.members) same ∙ ap (λ (d : Description). length d.members) tells.3 in
-    let first = get-within (found.0).indices 0 (omega (arith, long, one)) in
+    let first = get_within (found.0).indices 0 (omega (arith, long, one)) in
     (first.0, ap (option_and_then (λ (g : RegisteredGroup). slice_get g.indices 0)) found.1 ∙ first.1)
 
 -- an index of a function has a trampoline

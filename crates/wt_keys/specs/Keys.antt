@@ -9,7 +9,7 @@ use Rattle.wt_env.specs.declared.types.EngineOrModuleTypeIndex.TheVariants as in
 use Rattle.wt_env.specs.declared.types.WasmSubType.{WasmSubType}
 use Rattle.wt_tree.specs.References.{group_refs}
 use Rattle.wt_tree.specs.MapRefs.{map_group_refs}
-use Rattle.wt_rules.specs.Rules.{kinded_refs, type_indices}
+use Rattle.wt_tree.specs.Kinds.{kinded_refs, type_indices}
 use Rattle.wt_keys.specs.declared.entry.RecGroupEntry.{RecGroupEntry}
 use Rattle.wt_model.specs.Registered.{RegisteredGroup}
 use Rattle.wt_env.specs.Among.{Among}
@@ -36,11 +36,18 @@ KeyNamesKind made types wanted (index.Engine i) = (at : ℕ × ℕ) × (locate m
 KeyNamesKind made types wanted (index.Module n) = ⊥
 KeyNamesKind made types wanted (index.RecGroup k) = kind_at types k ≡ Some wanted
 
--- The types of a key have each place of their own that stands in them, supertypes included, and each reference
--- names a type of the kind that it says.
+-- the supertype of the member at this place names a type before it: a registered one, or an earlier member of the key
+abbrev pub KeyNamesEarlier : ℕ → EngineOrModuleTypeIndex → Type 0
+KeyNamesEarlier place (index.Engine i) = Unit {0}
+KeyNamesEarlier place (index.Module n) = ⊥
+KeyNamesEarlier place (index.RecGroup k) = k < place
+
+-- The types of a key have each place of their own that stands in them, supertypes included, each reference names a
+-- type of the kind that it says, and each supertype a type before the one that declares it.
 pub record KeyNamesTypes (made : List RegisteredGroup) (types : List WasmSubType) : Type 0 where
   pub own : (ty : WasmSubType) (k : ℕ) → Among ty types → Among (index.RecGroup k) (type_indices ty) → k < length types
   pub kinds : (ty : WasmSubType) (wanted : Kind) (i : EngineOrModuleTypeIndex) → Among ty types → Among (wanted, i) (kinded_refs ty) → KeyNamesKind made types wanted i
+  pub supertypes : (place : ℕ) (ty : WasmSubType) (i : EngineOrModuleTypeIndex) → slice_get types place ≡ Some ty → ty.supertype ≡ Some i → KeyNamesEarlier place i
 
 -- What is true of one entry among those that are registered: its references that leave are indices of
 -- registered types, which outer tells, of older groups; it has one index for each member; what stands in it names

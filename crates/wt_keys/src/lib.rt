@@ -3,3 +3,4 @@
 
 pub mod entry;
 pub mod search;
+pub mod subtyping;

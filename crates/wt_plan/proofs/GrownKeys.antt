@@ -92,6 +92,7 @@ key_names-grown entries more types names = record {
   kinds = λ ty wanted i at there.
       subst (λ (made : List RegisteredGroup). KeyNamesKind made types wanted i) (sym (map-append made_of entries more))
       (key_names_kind-before (made_by entries) (made_by more) types wanted i (names.kinds ty wanted i at there));
+  supertypes = names.supertypes;
 }
 
 pub named-grown : (entries more : List RecGroupEntry) (types : List WasmSubType) → AreResolved (made_by entries) types → AreResolved (made_by (entries ++ more)) types

@@ -1,20 +1,18 @@
 -- A function over numbers and a trampoline, which have no index in them, name nothing that isn't there.
-use Rattle.std.proofs.Common.{◌≡◌, true, List, [], ◌∷◌, map, ap, inl, inr, sym, subst, ◌∙◌}
-use Rattle.std.specs.Prelude.{option_to_list}
+use Rattle.std.proofs.Common.{◌≡◌, true, List, [], ◌∷◌, ap, inl, inr, sym, subst, ◌∙◌}
 use Rattle.wt_env.specs.Among.{Among}
-use Rattle.wt_env.specs.declared.types.Kind.{Kind}
 use Rattle.wt_env.specs.declared.types.EngineOrModuleTypeIndex.{EngineOrModuleTypeIndex}
 use Rattle.wt_env.specs.declared.types.EngineOrModuleTypeIndex.TheVariants as index
 use Rattle.wt_env.specs.declared.types.WasmSubType.{WasmSubType}
-use Rattle.wt_env.proofs.lists.Mapped.{among_map, among_mapped}
-use Rattle.wt_env.proofs.lists.Members.{among_behind}
+use Rattle.wt_env.proofs.lists.Mapped.{among_map}
+use Rattle.wt_env.proofs.lists.Members.{get_among}
 use Rattle.wt_tree.specs.NumberFunction.{is_number_function}
 use Rattle.wt_tree.specs.MapRefs.{map_sub_refs}
 use Rattle.wt_tree.specs.Trampoline.{is_own_trampoline}
-use Rattle.wt_tree.proofs.Plain.{map_sub_refs-plain}
-use Rattle.wt_tree.proofs.Trampolines.{map_sub_refs-own}
-use Rattle.wt_rules.specs.Rules.{kinded_refs, type_indices}
-use Rattle.wt_rules.proofs.ChangedKinds.{type_indices-changed}
+use Rattle.wt_tree.proofs.Plain.{map_sub_refs-own, number_function-own}
+use Rattle.wt_tree.specs.Kinds.{type_indices}
+use Rattle.wt_tree.proofs.ChangedKinds.{type_indices-changed}
+use Rattle.wt_rules.proofs.ModuleReferences.{super_index, kinded_index}
 use Rattle.wt_model.specs.Registered.{RegisteredGroup}
 use Rattle.wt_keys.specs.Keys.{KeyNamesTypes}
 
@@ -40,18 +38,18 @@ no_index ty same i at =
 unchanging-kinds : (made : List RegisteredGroup) (ty : WasmSubType) → IsUnchanging ty → KeyNamesTypes made (ty ∷ [])
 unchanging-kinds made ty same = record {
   own = λ t k at there. absurd (none t (index.RecGroup k) at there);
-  kinds = λ t wanted i at there.
-      absurd (none t i at (among_behind (option_to_list t.supertype) (map (λ r. r.1) (kinded_refs t)) i (among_mapped (λ (r : Kind × EngineOrModuleTypeIndex). r.1) (kinded_refs t) (wanted, i) there)));
+  kinds = λ t wanted i at there. absurd (none t i at (kinded_index t (wanted, i) there));
+  supertypes = λ place t i at is. absurd (none t i (get_among (ty ∷ []) place t at) (super_index t i is));
 }
   where
     none : (t : WasmSubType) (i : EngineOrModuleTypeIndex) → Among t (ty ∷ []) → Among i (type_indices t) → ⊥
     none t i (inl is) there = no_index ty same i (subst (λ (x : WasmSubType). Among i (type_indices x)) is there)
     none t i (inr nothing) there = absurd nothing
 
--- a key of one function over numbers names types of the kinds that are said
-pub host-kinds : (made : List RegisteredGroup) (ty : WasmSubType) → is_number_function ty ≡ true → KeyNamesTypes made (ty ∷ [])
-host-kinds made ty plain = unchanging-kinds made ty (λ f. map_sub_refs-plain f ty plain)
-
--- and so does that of a trampoline alone
+-- a key of a trampoline alone names types of the kinds that are said
 pub alone-kinds : (made : List RegisteredGroup) (ty : WasmSubType) → is_own_trampoline ty ≡ true → KeyNamesTypes made (ty ∷ [])
 alone-kinds made ty own = unchanging-kinds made ty (λ f. map_sub_refs-own f ty own)
+
+-- and so does that of one function over numbers
+pub host-kinds : (made : List RegisteredGroup) (ty : WasmSubType) → is_number_function ty ≡ true → KeyNamesTypes made (ty ∷ [])
+host-kinds made ty plain = alone-kinds made ty (number_function-own ty plain)

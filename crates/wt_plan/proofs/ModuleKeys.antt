@@ -13,8 +13,8 @@ use Rattle.wt_env.specs.Among.{Among}
 use Rattle.wt_tree.specs.References.{group_refs, number_group}
 use Rattle.wt_tree.specs.MapRefs.{map_group_refs}
 use Rattle.wt_tree.specs.Canonical.{known_index, own_index, canonical_index}
-use Rattle.wt_tree.specs.Tree.{ClosedTree, group, outer, close_outer}
-use Rattle.wt_tree.specs.ModuleTree.{no_tree, known_tree, known_outer, group_tree}
+use Rattle.wt_tree.specs.Tree.{ClosedTree, group, outer, close_outer, no_tree}
+use Rattle.wt_tree.specs.ModuleTree.{known_tree, known_outer, group_tree}
 use Rattle.wt_tree.proofs.Canonical.{canonical_group-numbers, canonical_group-refs}
 use Rattle.wt_tree.proofs.LeftReferences.{own_refs-earlier}
 use Rattle.wt_model.specs.Registered.{RegisteredGroup}

@@ -1,7 +1,6 @@
--- Where a module keeps its rules, the key of each of its groups names types of the kinds that are said: the types so
--- far are registered, and are of the kinds that stand at their places.
+-- Where a module keeps its rules, the key of each of its groups names types of the kinds that are said, and earlier
+-- types as supertypes: the types so far are registered, and are of the kinds that stand at their places.
 use Rattle.std.proofs.Common.{◌≡◌, ℕ, ◌+◌, ◌-◌, ◌<◌, ◌≤◌, Bool, true, false, nat_lt, if◌then◌else◌, List, [], ◌∷◌, ◌++◌, length, map, take, drop, slice_get, get_or, Option, Some, None, option_map, unwrap_or, inl, refl, sym, ap, subst, ◌∙◌, arith}
-use Rattle.std.specs.Prelude.{option_to_list}
 use Rattle.std.proofs.lemmas.List.{length-map, take-append-drop, drop_more}
 use Rattle.std.proofs.lemmas.Option.{slice_get-get_or, slice_get-map}
 use Rattle.wt_env.specs.Among.{Among}
@@ -12,14 +11,16 @@ use Rattle.wt_env.specs.declared.types.EngineOrModuleTypeIndex.{EngineOrModuleTy
 use Rattle.wt_env.specs.declared.types.EngineOrModuleTypeIndex.TheVariants as index
 use Rattle.wt_env.specs.declared.types.WasmSubType.{WasmSubType}
 use Rattle.wt_env.specs.declared.types.WasmRecGroup.{WasmRecGroup}
-use Rattle.wt_env.proofs.lists.Mapped.{among_map, among_mapped}
-use Rattle.wt_env.proofs.lists.Members.{among_behind}
+use Rattle.wt_env.proofs.lists.Mapped.{among_map}
+use Rattle.wt_env.proofs.lists.Members.{some_same, get_among, among_behind}
 use Rattle.wt_tree.specs.Canonical.{known_at, canonical_index}
 use Rattle.wt_tree.specs.MapRefs.{map_sub_refs, map_group_refs}
-use Rattle.wt_rules.specs.Rules.{total_members, member_kind, kinds_of, kinded_refs, first_broken, type_indices, AreModuleTypes}
-use Rattle.wt_rules.proofs.ChangedKinds.{kinded_refs-changed, type_indices-changed}
+use Rattle.wt_tree.specs.Kinds.{member_kind, kinded_refs, type_indices}
+use Rattle.wt_tree.proofs.ChangedKinds.{kinded_refs-changed, type_indices-changed}
+use Rattle.wt_rules.specs.Rules.{total_members, kinds_of, first_broken, AreModuleTypes}
+use Rattle.wt_rules.proofs.ModuleReferences.{super_index, kinded_index}
 use Rattle.wt_rules.proofs.KindLookup.{get_left, get_right}
-use Rattle.wt_rules.proofs.KeptRules.{KeepRules, rules-kept, forward-kept, kind-kept, kind-before, kind-inside}
+use Rattle.wt_rules.proofs.KeptRules.{KeepRules, rules-kept, forward-kept, super_order-kept, kind-kept, kind-before, kind-inside}
 use Rattle.wt_model.specs.Registered.{RegisteredGroup}
 use Rattle.wt_model.specs.Indices.{locate}
 use Rattle.wt_model.specs.NamedTypes.{kind_at, HasKind}
@@ -28,7 +29,7 @@ use Rattle.wt_model.proofs.NamedTypes.{has_kind-before, kind_at-changed}
 use Rattle.wt_model.proofs.indices.Places.{locate-before}
 use Rattle.wt_keys.specs.declared.entry.RecGroupEntry.{RecGroupEntry}
 use Rattle.wt_keys.specs.Entries.{made_of}
-use Rattle.wt_keys.specs.Keys.{KeyNamesKind, KeyNamesTypes}
+use Rattle.wt_keys.specs.Keys.{KeyNamesKind, KeyNamesEarlier, KeyNamesTypes}
 use Rattle.wt_keys.proofs.NamedByKeys.{kind_at-numbered}
 use Rattle.wt_plan.proofs.ModuleKeys.{module_index, known_index-at}
 
@@ -96,15 +97,16 @@ own_from indices start j k same = by (nat_lt j.0 start) refl same
         let past : start ≤ j.0 = grind (arith, e) in
         (place, past)
 
-kinded_index : (t : WasmSubType) (reference : Kind × EngineOrModuleTypeIndex) → Among reference (kinded_refs t) → Among reference.1 (type_indices t)
-kinded_index t reference at =
-    among_behind (option_to_list t.supertype) (map (λ r. r.1) (kinded_refs t)) reference.1 (among_mapped (λ (r : Kind × EngineOrModuleTypeIndex). r.1) (kinded_refs t) reference at)
+-- what a function makes of the entry of an option comes from one
+some_mapped : {A B : Type 0} (f : A → B) (found : Option A) (y : B) → option_map f found ≡ Some y → (x : A) × (found ≡ Some x) × (y ≡ f x)
+some_mapped f None y is = absurd (cc)
+some_mapped f (Some x) y is = (x, refl, sym (some_same is))
 
 module _ (made : List RegisteredGroup) (indices : List VMSharedTypeIndex) (before : List WasmRecGroup) (group : WasmRecGroup) (rest : List WasmRecGroup) (count : length indices ≡ total_members before) (known : AreOfKinds made indices (kinds_of before)) (only : AreModuleTypes (before ++ group ∷ rest)) (none : first_broken (before ++ group ∷ rest) ≡ None) where
   abbrev change : EngineOrModuleTypeIndex → EngineOrModuleTypeIndex
   change = canonical_index (length indices) indices
 
-  rules : KeepRules (kinds_of (before ++ group ∷ rest)) (total_members before + length group.types) group.types
+  rules : KeepRules (kinds_of (before ++ group ∷ rest)) (total_members before) group.types
   rules = rules-kept before group rest none
 
   -- an index in a type of the group is one to a type of the module, up to the group's end
@@ -165,6 +167,31 @@ module _ (made : List RegisteredGroup) (indices : List VMSharedTypeIndex) (befor
       let from = among_map (λ (r : Kind × EngineOrModuleTypeIndex). (r.0, change r.1)) (kinded_refs source.0) (wanted, i) changed in
       kind_same (wanted, i) from.0 from.2 (kind_changed source.0 from.0 source.1 from.1)
 
+  -- a type before the one at a place is a known one, or an earlier member of the group
+  earlier_found : (place : ℕ) (j : ModuleInternedTypeIndex) → j.0 < total_members before + place → KeyNamesEarlier place (change (index.Module j))
+  earlier_found place j below = by (nat_lt j.0 (length indices)) refl
+    where
+      by : (b : Bool) → nat_lt j.0 (length indices) ≡ b → KeyNamesEarlier place (if b then known_at indices j else index.RecGroup (j.0 - length indices))
+      by true e =
+          let known_before : j.0 < length indices = grind (arith, e) in
+          let at = slice_get-get_or indices j.0 (record { 0 = 0 }) known_before in
+          subst (KeyNamesEarlier place) (sym (known_index-at indices j (get_or indices j.0 (record { 0 = 0 })) at)) tt
+      by false e =
+          let past : length indices ≤ j.0 = grind (arith, e) in
+          omega (arith, past, below, count)
+
+  super_changed : (place : ℕ) (t : WasmSubType) (i : EngineOrModuleTypeIndex) → slice_get group.types place ≡ Some t → t.supertype ≡ Some i → KeyNamesEarlier place (change i)
+  super_changed place t i at is =
+      let named = module_within t i (get_among group.types place t at) (super_index t i is) in
+      let below = super_order-kept (total_members before + place) t named.0 (rules.super_order place t at) (is ∙ ap Some named.1) in
+      subst (λ (x : EngineOrModuleTypeIndex). KeyNamesEarlier place (change x)) (sym named.1) (earlier_found place named.0 below)
+
+  supertypes_named : (place : ℕ) (ty : WasmSubType) (i : EngineOrModuleTypeIndex) → slice_get (map_group_refs change group.types) place ≡ Some ty → ty.supertype ≡ Some i → KeyNamesEarlier place i
+  supertypes_named place ty i at is =
+      let source = some_mapped (map_sub_refs change) (slice_get group.types place) ty (sym (slice_get-map (map_sub_refs change) group.types place) ∙ at) in
+      let from = some_mapped change (source.0).supertype i (ap (λ (t : WasmSubType). t.supertype) (sym source.2) ∙ is) in
+      subst (KeyNamesEarlier place) (sym from.2) (super_changed place source.0 from.0 source.1 from.1)
+
   -- the key of the group names types of the kinds that are said
   pub canonical-kinds : KeyNamesTypes made (map_group_refs (canonical_index (length indices) indices) group.types)
-  canonical-kinds = record { own = own_places; kinds = kinds_named }
+  canonical-kinds = record { own = own_places; kinds = kinds_named; supertypes = supertypes_named }

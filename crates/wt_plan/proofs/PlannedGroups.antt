@@ -27,7 +27,8 @@ use Rattle.wt_keys.specs.Keys.{AreShown}
 use Rattle.wt_model.specs.Plan.{Plan, Occurs, plan_group, plan_groups}
 use Rattle.wt_plan.specs.Planned.{AreResolved, AreNewBelow, AreNewKeys, PlansOne, plan_of}
 use Rattle.wt_env.specs.declared.types.Kind.{Kind}
-use Rattle.wt_rules.specs.Rules.{total_members, member_kind, kinds_of, is_module_index}
+use Rattle.wt_tree.specs.Kinds.{member_kind}
+use Rattle.wt_rules.specs.Rules.{total_members, kinds_of, is_module_index}
 use Rattle.wt_rules.proofs.KeptRules.{kinds_of-append, length-kinds_of, total_members-more}
 use Rattle.wt_env.proofs.lists.Mapped.{among_map, among_mapped, among_last}
 use Rattle.wt_keys.proofs.AddedKeys.{closed_tree-registered}

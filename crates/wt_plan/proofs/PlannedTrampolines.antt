@@ -1,5 +1,5 @@
 -- The trampolines of a group's members that were planned so far, and one more.
-use Rattle.std.proofs.Common.{◌≡◌, ℕ, ◌+◌, inl, inr, true, false, Bool, ◌⊎◌, List, [], ◌∷◌, ◌++◌, map, Option, Some, None, option_map, refl, sym, ap, subst, ◌∙◌, append_assoc}
+use Rattle.std.proofs.Common.{◌≡◌, ℕ, inl, inr, true, false, Bool, ◌⊎◌, List, [], ◌∷◌, ◌++◌, map, Option, Some, None, option_map, refl, sym, ap, subst, ◌∙◌, append_assoc}
 use Rattle.std.specs.List.{find}
 use Rattle.std.proofs.lemmas.Bool.{false_from_ne_true}
 use Rattle.std.proofs.lemmas.List.{map-append}
@@ -10,9 +10,10 @@ use Rattle.wt_env.specs.declared.types.WasmRecGroup.{WasmRecGroup}
 use Rattle.wt_env.proofs.lists.Mapped.{among_mapped, among_last}
 use Rattle.wt_env.proofs.lists.Members.{among_before, among_behind, among_either, find-found}
 use Rattle.wt_tree.specs.References.{number_group, group_refs}
-use Rattle.wt_tree.specs.Tree.{Tree, Description, group, close}
+use Rattle.wt_tree.specs.Tree.{Tree, Description, close}
 use Rattle.wt_tree.specs.Trampoline.{trampoline_tree, trampoline_alone, is_own_trampoline, other_trampoline}
-use Rattle.wt_tree.proofs.Trampolines.{other-no_other, group_refs-own, number_group-own}
+use Rattle.wt_tree.proofs.Plain.{group_refs-own, number_group-own}
+use Rattle.wt_tree.proofs.Trampolines.{other-no_other}
 use Rattle.wt_model.specs.Registered.{RegisteredGroup}
 use Rattle.wt_model.specs.Trees.{trees}
 use Rattle.wt_model.specs.Describe.{located, describe, tree_of, find_tree}

@@ -307,9 +307,7 @@ fn plan_alone(
     ensures keys { OnOk result (AreKeys (entries.now ++ plan.new.added.items) plan.new.given.numbers) }
     ensures alone { IfOk result (λ number. PlansAlone entries.now plan.old plan.new member number) }
 {
-    let key = WasmRecGroup {
-        types: Seq::one(alloc, member)?,
-    };
+    let key = WasmRecGroup::alone(alloc, member)?;
     if let Some(alone) = find_planned(entries, plan.added.as_slice(), &key) {
         return Ok(alone.number);
     }

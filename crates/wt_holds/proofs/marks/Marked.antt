@@ -1,43 +1,35 @@
 -- What is left where marks tell which groups are kept.
-use Rattle.std.proofs.Common.{◌≡◌, ℕ, Bool, true, false, cond, List, [], ◌∷◌, map, refl, sym, ap, ◌∙◌}
+use Rattle.std.proofs.Common.{◌≡◌, ℕ, Bool, cond, List, [], ◌∷◌, map, refl, sym, ap, ◌∙◌}
+use Rattle.std.specs.List.{filter}
+use Rattle.std.proofs.lemmas.Simd.{map-map}
+use Rattle.wt_env.proofs.lists.Filtered.{map_filter}
 use Rattle.wt_holds.specs.declared.hold_counts.HoldCounts.{HoldCounts}
 use Rattle.wt_keys.specs.declared.entry.RecGroupEntry.{RecGroupEntry}
 use Rattle.wt_holds.specs.Counts.{standing_of, standings_of}
 use Rattle.wt_keys.specs.Entries.{made_of, made_by}
-use Rattle.wt_model.specs.Registered.{RegisteredGroup}
-use Rattle.wt_holds.specs.Marks.{marked, marked_items}
+use Rattle.wt_model.specs.Registered.{RegisteredGroup, GroupHolds}
+use Rattle.wt_holds.specs.Marks.{marked, marked_items, kept_entries}
 use Rattle.wt_model.specs.Removal.{kept_made, kept_standings}
 
--- the entries that are marked are those of the groups that are kept
-pub entries-marked : (keep : ℕ → Bool) (entries : List RecGroupEntry) → made_by (marked_items (marked keep (made_by entries)) entries) ≡ kept_made keep (made_by entries)
-entries-marked keep [] = refl
-entries-marked keep (e ∷ entries) = by (keep e.number) (entries-marked keep entries)
-  where
-    by : (b : Bool) → made_by (marked_items (marked keep (made_by entries)) entries) ≡ kept_made keep (made_by entries)
-        → made_by (cond b (e ∷ marked_items (marked keep (made_by entries)) entries) (marked_items (marked keep (made_by entries)) entries))
-        ≡ cond b (made_of e ∷ kept_made keep (made_by entries)) (kept_made keep (made_by entries))
-    by true later = ap (λ made. made_of e ∷ made) later
-    by false later = later
+-- where a test of what f makes of each item is its mark, those that pass are left
+items-marked : {A B : Type 0} (f : A → B) (keep : B → Bool) (items : List A) → marked_items (map keep (map f items)) items ≡ filter (λ item. keep (f item)) items
+items-marked f keep [] = refl
+items-marked f keep (x ∷ items) = ap (λ rest. cond (keep (f x)) (x ∷ rest) rest) (items-marked f keep items)
+
+-- so the entries that are left are those of the groups that are kept
+pub entries-marked : (keep : ℕ → Bool) (entries : List RecGroupEntry) → marked_items (marked keep (made_by entries)) entries ≡ kept_entries keep entries
+entries-marked keep entries = items-marked made_of (λ m. keep m.number) entries
+
+-- which are those groups
+pub made-kept : (keep : ℕ → Bool) (entries : List RecGroupEntry) → made_by (kept_entries keep entries) ≡ kept_made keep (made_by entries)
+made-kept keep entries = map_filter made_of (λ m. keep m.number) entries
 
 pub marks-numbers : (keep : ℕ → Bool) (made : List RegisteredGroup) → marked keep made ≡ map keep (map (λ m. m.number) made)
-marks-numbers keep [] = refl
-marks-numbers keep (m ∷ made) = ap (λ marks. keep m.number ∷ marks) (marks-numbers keep made)
-
-counts-numbers : (keep : ℕ → Bool) (counts : List HoldCounts) → standings_of (marked_items (map keep (map (λ s. s.number) (standings_of counts))) counts) ≡ kept_standings keep (standings_of counts)
-counts-numbers keep [] = refl
-counts-numbers keep (c ∷ counts) = by (keep c.number) (counts-numbers keep counts)
-  where
-    marks : List Bool
-    marks = map keep (map (λ s. s.number) (standings_of counts))
-
-    by : (b : Bool) → standings_of (marked_items marks counts) ≡ kept_standings keep (standings_of counts)
-        → standings_of (cond b (c ∷ marked_items marks counts) (marked_items marks counts))
-        ≡ cond b (standing_of c ∷ kept_standings keep (standings_of counts)) (kept_standings keep (standings_of counts))
-    by true later = ap (λ standings. standing_of c ∷ standings) later
-    by false later = later
+marks-numbers keep made = sym (map-map keep (λ (m : RegisteredGroup). m.number) made)
 
 -- and so for the counts, which stand under the same numbers
 pub counts-marked : (keep : ℕ → Bool) (made : List RegisteredGroup) (counts : List HoldCounts) → map (λ s. s.number) (standings_of counts) ≡ map (λ m. m.number) made
     → standings_of (marked_items (marked keep made) counts) ≡ kept_standings keep (standings_of counts)
 counts-marked keep made counts same =
-    ap (λ marks. standings_of (marked_items marks counts)) (marks-numbers keep made ∙ ap (map keep) (sym same)) ∙ counts-numbers keep counts
+    ap (λ marks. standings_of (marked_items marks counts)) (marks-numbers keep made ∙ ap (map keep) (sym same ∙ map-map (λ (s : GroupHolds). s.number) standing_of counts))
+    ∙ (ap standings_of (items-marked (λ (c : HoldCounts). (standing_of c).number) keep counts) ∙ map_filter standing_of (λ s. keep s.number) counts)

@@ -1,5 +1,6 @@
 -- The marks of the groups that are held or wait, as one pass over the counts makes them.
 use Rattle.std.proofs.Common.{◌≡◌, ℕ, inl, inr, Bool, List, [], ◌∷◌, map, refl, sym, ap, ◌∙◌}
+use Rattle.std.proofs.lemmas.Simd.{map-map}
 use Rattle.wt_holds.specs.declared.hold_counts.HoldCounts.{HoldCounts}
 use Rattle.wt_model.specs.Registered.{RegisteredGroup, GroupHolds}
 use Rattle.wt_env.specs.Among.{Among}
@@ -23,14 +24,10 @@ map-agree f g (s ∷ standings) same =
     let rest = map-agree f g standings (λ t at. same t (inr at)) in
     λ i. first i ∷ rest i
 
-through : (f : ℕ → Bool) (standings : List GroupHolds) → map (λ s. f s.number) standings ≡ map f (map (λ s. s.number) standings)
-through f [] = refl
-through f (s ∷ standings) = ap (λ marks. f s.number ∷ marks) (through f standings)
-
 -- they are what is told of each group's number
 pub rooted-marked : (top : ℕ) (made : List RegisteredGroup) (standings : List GroupHolds) → IsRising 0 made top → map (λ s. s.number) standings ≡ map (λ m. m.number) made
     → map is_rooted standings ≡ marked (is_root standings) made
 rooted-marked top made standings rising numbers =
     map-agree is_rooted (λ s. is_root standings s.number) standings (λ s at. sym (root-at 0 standings s (rise_with top made standings rising numbers) at))
-    ∙ (through (is_root standings) standings
+    ∙ (sym (map-map (is_root standings) (λ (s : GroupHolds). s.number) standings)
     ∙ (ap (map (is_root standings)) numbers ∙ sym (marks-numbers (is_root standings) made)))

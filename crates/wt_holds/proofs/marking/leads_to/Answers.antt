@@ -1,5 +1,5 @@
 -- the references that leave, and what is told of trampolines, are the edges
-use Rattle.std.proofs.Common.{◌==◌, ◌||◌, true, false, List, Option, ℕ, sym, ap, ◌∙◌}
+use Rattle.std.proofs.Common.{◌==◌, ◌||◌, List, Option, ℕ, sym, ap, ◌∙◌}
 use Rattle.std.specs.List.{list_any}
 use Rattle.std.specs.Option.{option_to_list}
 use Rattle.wt_holds.proofs.marks.Edges.{edge-to}

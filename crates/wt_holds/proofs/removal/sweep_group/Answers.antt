@@ -2,6 +2,7 @@
 use Rattle.std.proofs.Common.{◌≡◌, ◌-◌, ℕ, Bool, true, List, length, map, refl, sym, ap, subst, ◌∙◌, arith}
 use Rattle.std.proofs.lemmas.List.{length-map}
 use Rattle.wt_holds.specs.declared.hold_counts.HoldCounts.{HoldCounts}
+use Rattle.wt_keys.specs.declared.entry.RecGroupEntry.{RecGroupEntry}
 use Rattle.wt_model.specs.declared.swept.Swept.TheVariants.{Removed}
 use Rattle.wt_model.specs.Registered.{GroupHolds, Registry}
 use Rattle.wt_model.specs.Holds.{waits_at, no_longer}
@@ -10,7 +11,7 @@ use Rattle.wt_model.specs.Sound.{HoldsInvariant}
 use Rattle.wt_holds.specs.Counts.{standings_of}
 use Rattle.wt_keys.specs.Entries.{made_of, made_by}
 use Rattle.wt_holds.specs.Kept.{registry_at}
-use Rattle.wt_holds.proofs.KeptKeys.{length-kept_entries}
+use Rattle.wt_env.proofs.lists.Filtered.{filter_shorter}
 use Rattle.wt_model.proofs.holds.Looked.{numbers-change}
 use Rattle.wt_holds.proofs.PartKept.{counted_as, part-keeps}
 use Rattle.wt_holds.proofs.Ready.{ready-counts}
@@ -27,7 +28,7 @@ pub overflow_sub-result : goal.overflow_sub-result
 overflow_sub-result c =
     let entries = c.args.groups.now.entries.items in
     let keep : ℕ → Bool = is_reached (made_by entries) (is_root (standings_of c.set_waits.new.counts.items)) in
-    omega (arith, ap length c.as_slice-before.ensures.value, ap length c.as_slice-then-waits.ensures.value, ap length c.remove_unreached.ensures.entries, length-kept_entries keep entries)
+    omega (arith, ap length c.as_slice-before.ensures.value, ap length c.as_slice-then-waits.ensures.value, ap length c.remove_unreached.ensures.entries, filter_shorter (λ (e : RecGroupEntry). keep e.number) entries)
 
 pub returns-then-waits-clause-swept : goal.returns-then-waits-clause-swept
 returns-then-waits-clause-swept c = λ engine.

@@ -1,5 +1,6 @@
 -- the canonical form of a module's group is planned
-use Rattle.std.proofs.Common.{◌≡◌, ℕ, ◌++◌, List, length, Result, Ok, Err, OnOk, sym, ap, subst, ◌∙◌}
+use Rattle.std.proofs.Common.{◌≡◌, ℕ, ◌++◌, List, length, sym, ap, subst, ◌∙◌}
+use Rattle.std.proofs.lemmas.Result.{on_ok_weaker}
 use Rattle.wt_env.specs.declared.types.VMSharedTypeIndex.{VMSharedTypeIndex}
 use Rattle.wt_env.specs.declared.types.WasmSubType.{WasmSubType}
 use Rattle.wt_tree.specs.Canonical.{canonical_index}
@@ -31,15 +32,11 @@ plan_key-requires-clause-kinds c =
     let key = canonical_same c.in_ok-start.start c.len.result plan.map.items c.as_slice.result.now c.args.group.now.types c.as_slice-2.result.now c.in_ok-types.types c.in_ok-start.ensures (c.as_slice.ensures.len ∙ sym c.len.ensures) c.as_slice.ensures.value c.as_slice-2.ensures c.in_ok-types.ensures in
     subst (KeyNamesTypes (made_by (c.args.entries.now ++ plan.added.items))) (sym key) c.requires.kinds
 
-on_ok_map : {A E P Q : Type 0} (result : Result A E) → (P → Q) → OnOk result P → OnOk result Q
-on_ok_map (Ok x) f p = f p
-on_ok_map (Err e) f p = tt
-
 pub returns-clause-ok : goal.returns-clause-ok
 returns-clause-ok c =
     let plan = c.args.plan.now in
     let key = canonical_same c.in_ok-start.start c.len.result plan.map.items c.as_slice.result.now c.args.group.now.types c.as_slice-2.result.now c.in_ok-types.types c.in_ok-start.ensures (c.as_slice.ensures.len ∙ sym c.len.ensures) c.as_slice.ensures.value c.as_slice-2.ensures c.in_ok-types.ensures in
-    on_ok_map c.plan_key.result
+    on_ok_weaker c.plan_key.result
     (λ is. ap (plan_key (plan_of c.args.entries.now plan)) (sym key) ∙ is)
     c.plan_key.ensures.ok
 
@@ -47,4 +44,4 @@ pub returns-clause-one : goal.returns-clause-one
 returns-clause-one c =
     let plan = c.args.plan.now in
     let key = canonical_same c.in_ok-start.start c.len.result plan.map.items c.as_slice.result.now c.args.group.now.types c.as_slice-2.result.now c.in_ok-types.types c.in_ok-start.ensures (c.as_slice.ensures.len ∙ sym c.len.ensures) c.as_slice.ensures.value c.as_slice-2.ensures c.in_ok-types.ensures in
-    on_ok_map c.plan_key.result (λ one. subst (PlansOne c.args.entries.now plan c.plan_key.new.plan) key one) c.plan_key.ensures.one
+    on_ok_weaker c.plan_key.result (λ one. subst (PlansOne c.args.entries.now plan c.plan_key.new.plan) key one) c.plan_key.ensures.one

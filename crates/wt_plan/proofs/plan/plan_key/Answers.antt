@@ -1,5 +1,6 @@
 -- the search by keys is that of the definition, and a group that isn't there is new
-use Rattle.std.proofs.Common.{◌≡◌, ℕ, ◌+◌, [], ◌∷◌, ◌++◌, Some, None, Result, Ok, Err, OnOk, refl, ap, ◌∙◌}
+use Rattle.std.proofs.Common.{[], ◌++◌, Some, None, Result, Ok, Err, OnOk, refl, ap, ◌∙◌}
+use Rattle.std.proofs.lemmas.Result.{on_ok_weaker}
 use Rattle.wt_env.specs.Equality.{rec_group_eq, rec_group_eq-exact}
 use Rattle.wt_env.specs.declared.types.WasmRecGroup.{WasmRecGroup}
 use Rattle.wt_env.proofs.lists.Members.{find-found}
@@ -12,10 +13,6 @@ use Rattle.wt_plan.proofs.plan.plan_key.Goals as goal
 both_ok : {A E : Type 0} {P Q R : Type 0} (result : Result A E) → OnOk result P → OnOk result Q → (P → Q → R) → OnOk result R
 both_ok (Ok x) p q f = f p q
 both_ok (Err e) p q f = tt
-
-on_ok : {A E : Type 0} {P R : Type 0} (result : Result A E) → (P → R) → OnOk result P → OnOk result R
-on_ok (Ok x) f p = f p
-on_ok (Err e) f p = tt
 
 pub returns-in-Some-clause-ok : goal.returns-in-Some-clause-ok
 returns-in-Some-clause-ok c =
@@ -48,6 +45,6 @@ plan_new-requires-clause-new c = found_among c.args.entries.now c.args.plan.now.
 
 pub returns-clause-ok : goal.returns-clause-ok
 returns-clause-ok c =
-    on_ok c.plan_new.result
+    on_ok_weaker c.plan_new.result
     (λ is. planned-new c.args.entries.now c.args.plan.now c.args.key c.requires.keys c.requires.named (found_among c.args.entries.now c.args.plan.now.added.items c.as_slice.result.now c.args.key None c.as_slice.ensures.value c.in_default.ensures) ∙ is)
     c.plan_new.ensures.ok
