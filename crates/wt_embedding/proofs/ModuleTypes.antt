@@ -6,7 +6,8 @@ use Rattle.wt_env.specs.declared.types.EngineOrModuleTypeIndex.TheVariants as in
 use Rattle.wt_env.specs.declared.types.WasmSubType.{WasmSubType}
 use Rattle.wt_env.specs.declared.types.WasmRecGroup.{WasmRecGroup}
 use Rattle.wt_env.specs.Among.{Among}
-use Rattle.wt_registry.specs.Rules.{is_module_index, type_indices, AreModuleTypes}
+use Rattle.wt_tree.specs.Kinds.{type_indices}
+use Rattle.wt_registry.specs.Rules.{is_module_index, AreModuleTypes}
 
 one-named : (i : ModuleInternedTypeIndex) (r : EngineOrModuleTypeIndex) → Among r (index.Module i ∷ []) → is_module_index r ≡ true
 one-named i r (inl same) = ap is_module_index same

@@ -1,7 +1,8 @@
 //! The types of a module, as a decoder would make them.
 
 ghost use Rattle.std.specs.Prelude.{◌≡◌, [], ◌∷◌, IfOk};
-ghost use Rattle.wt_registry.specs.Rules.{AreCountable, AreModuleTypes, total_members, type_indices};
+ghost use Rattle.wt_registry.specs.Rules.{AreCountable, AreModuleTypes, total_members};
+ghost use Rattle.wt_tree.specs.Kinds.{type_indices};
 
 use std::alloc::Global;
 use wt_env::memory::OutOfMemory;

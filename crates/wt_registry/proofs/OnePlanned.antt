@@ -1,5 +1,5 @@
 -- A registration of one key: what its plan has, and what it comes to.
-use Rattle.std.proofs.Common.{◌≡◌, ℕ, ◌+◌, ◌<◌, ◌⊎◌, inl, inr, true, List, [], ◌∷◌, ◌++◌, length, map, slice_get, get_or, unwrap_or, Option, Some, None, option_map, Ok, refl, sym, ap, subst, ◌∙◌, arith}
+use Rattle.std.proofs.Common.{◌≡◌, ℕ, ◌<◌, ◌⊎◌, inl, inr, true, List, [], ◌∷◌, ◌++◌, length, map, slice_get, get_or, unwrap_or, Option, Some, None, option_map, Ok, refl, sym, ap, subst, ◌∙◌, arith}
 use Rattle.std.proofs.lemmas.List.{append-nil}
 use Rattle.std.proofs.lemmas.Option.{slice_get_read}
 use Rattle.wt_env.specs.Among.{Among}
@@ -11,7 +11,7 @@ use Rattle.wt_env.proofs.lists.Members.{some_same}
 use Rattle.wt_tree.specs.NumberFunction.{is_number_function}
 use Rattle.wt_tree.specs.Tree.{ClosedTree}
 use Rattle.wt_tree.specs.References.{group_refs}
-use Rattle.wt_tree.proofs.Plain.{group_refs-plain}
+use Rattle.wt_tree.proofs.Plain.{group_refs-own, number_function-own}
 use Rattle.wt_rules.proofs.Functions.{function-plain}
 use Rattle.wt_model.specs.declared.ever.EverRegistered.{EverRegistered}
 use Rattle.wt_model.specs.declared.refusal.BuildRefusal.{BuildRefusal}
@@ -46,7 +46,7 @@ plan_of-empty registry entries plan made given added numbers indices =
 
 -- a function over numbers refers to nothing
 pub plain-named : (made : List RegisteredGroup) (types : List WasmSubType) (ty : WasmSubType) → is_number_function ty ≡ true → types ≡ ty ∷ [] → AreResolved made types
-plain-named made types ty plain is = ([], ap (map (named_at made)) (ap group_refs is ∙ group_refs-plain ty plain))
+plain-named made types ty plain is = ([], ap (map (named_at made)) (ap group_refs is ∙ group_refs-own ty (number_function-own ty plain)))
 
 -- ---- a plan of one key
 
@@ -174,6 +174,19 @@ module _ (engine : EngineParts) (groups : TypeRegistryInner) (after : PlanFields
       let same : is.one.entry.number ≡ number = some_same (ap (λ (ns : List ℕ). slice_get ns 0) (sym is.one.numbers) ∙ first) in
       is.one.numbers ∙ ap (λ (n : ℕ). n ∷ []) same
 
+  -- a plan is refused with the limit that it would pass
+  pub refused : (party : ℕ) → registry_at engine groups ≡ old → is_number_function ty ≡ true
+      → registration_refusal old party (host_type ty) ≡ option_map refusal.Full (passed_limit (registry_at engine groups) party (plan_of groups.entries.items after))
+  refused party view plain =
+      host-refusal old party ty (function-plain ty plain)
+      ∙ ap (λ (p : Plan). option_map refusal.Full (passed_limit old party p)) is.planned
+      ∙ ap (λ (r : Registry). option_map refusal.Full (passed_limit r party (plan_of groups.entries.items after))) (sym view)
+
+  -- and one that would pass none is accepted
+  pub accepts : (party : ℕ) → registry_at engine groups ≡ old → is_number_function ty ≡ true → passed_limit (registry_at engine groups) party (plan_of groups.entries.items after) ≡ None
+      → registration_refusal old party (host_type ty) ≡ None
+  accepts party view plain none = refused party view plain ∙ ap (option_map refusal.Full) none
+
   -- what a plan that was carried out comes to
   module _ (kept : AreKept engine groups) (view : registry_at engine groups ≡ old) (new : TypeRegistryInner) (party number : ℕ) (index : VMSharedTypeIndex) (plain : is_number_function ty ≡ true)
       (none : passed_limit (registry_at engine groups) party (plan_of groups.entries.items after) ≡ None)
@@ -182,10 +195,7 @@ module _ (engine : EngineParts) (groups : TypeRegistryInner) (after : PlanFields
     pub registers : register old party ty ≡ Ok (record { engine = old.engine.number; index = index; number = number; party = party }, registry_at engine new)
     registers =
         let plan = plan_of groups.entries.items after in
-        let passes : passed_limit old party (registration_plan old (host_type ty)) ≡ None =
-        ap (passed_limit old party) is.planned ∙ ap (λ (r : Registry). passed_limit r party plan) (sym view) ∙ none in
-        let accepted : registration_refusal old party (host_type ty) ≡ None =
-        host-refusal old party ty (function-plain ty plain) ∙ ap (option_map refusal.Full) passes in
+        let accepted = accepts party view plain none in
         let after_it : carried_out old party plan ≡ registry_at engine new = ap (λ (r : Registry). carried_out r party plan) (sym view) ∙ carried in
         ap (λ (why : Option BuildRefusal). made_unless why (hold_of old.engine.number party (registration_plan old (host_type ty)), carried_out old party (registration_plan old (host_type ty)))) accepted
         ∙ ap (λ (p : Plan). Ok (hold_of old.engine.number party p, carried_out old party p)) is.planned
@@ -207,11 +217,3 @@ module _ (engine : EngineParts) (groups : TypeRegistryInner) (after : PlanFields
         ap (λ (made : List RegisteredGroup). number_of made index) (sym made-new ∙ groups_of-joined groups.entries.items after)
         ∙ one-located groups.entries.items groups.given.numbers after (ty ∷ []) is.one kept.keys after.given.numbers is.keys index first_index
         ∙ ap Some (some_same (ap (λ (ns : List ℕ). slice_get ns 0) (sym is.one.numbers) ∙ first_number))
-
-  -- and one that is refused
-  pub refused : (party : ℕ) → registry_at engine groups ≡ old → is_number_function ty ≡ true
-      → registration_refusal old party (host_type ty) ≡ option_map refusal.Full (passed_limit (registry_at engine groups) party (plan_of groups.entries.items after))
-  refused party view plain =
-      host-refusal old party ty (function-plain ty plain)
-      ∙ ap (λ (p : Plan). option_map refusal.Full (passed_limit old party p)) is.planned
-      ∙ ap (λ (r : Registry). option_map refusal.Full (passed_limit r party (plan_of groups.entries.items after))) (sym view)

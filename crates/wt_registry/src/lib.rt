@@ -11,4 +11,5 @@ mod enter;
 pub mod laws;
 pub mod registered_type;
 pub mod registry;
+pub mod subtyping;
 mod wanted;

@@ -5,11 +5,13 @@ ghost use Rattle.wt_tree.specs.NumberFunction.{is_number, is_number_function};
 ghost use Rattle.wt_model.specs.Holds.{IsHeld};
 
 use crate::debt::Debt;
+use crate::enter::check_and_commit;
 use crate::registry::TypeRegistry;
 use std::hash::{Hash, Hasher};
 use std::marker::Model;
-use wt_env::types::{VMSharedTypeIndex, WasmSubType};
+use wt_env::types::{VMSharedTypeIndex, WasmRecGroup, WasmSubType};
 use wt_model::refusal::{BuildRefusal, Full};
+use wt_plan::plan::{Plan, plan_key};
 
 /// A party of an engine, by its number.
 #[derive(Debug, Drop)]
@@ -131,14 +133,23 @@ impl RegisteredType {
         ensures held { IfOk result (λ hold. IsHeld registry.new hold) }
         ensures sound { IsSound registry.new }
     {
-        registry.assure();
-        let engine = registry.engine().number();
-        let (number, index) = registry.register(party.number(), ty)?;
+        let owner = party.number();
+        let key = WasmRecGroup::alone(registry.alloc, ty)?;
+        let mut plan = Plan::new(registry.alloc, registry.groups.given);
+        let entries = registry.groups.entries.as_slice();
+        plan_key(registry.alloc, entries, &mut plan, key)?;
+        let (numbers, map) = check_and_commit(
+            registry.alloc,
+            &registry.engine,
+            &mut registry.groups,
+            owner,
+            plan,
+        )?;
         Ok(RegisteredType {
-            engine,
-            index,
-            number,
-            party: party.number(),
+            engine: registry.engine.number(),
+            index: map[0],
+            number: numbers[0],
+            party: owner,
         })
     }
 

@@ -9,23 +9,24 @@ use std::marker::Model;
 use wt_env::limits::Engine;
 use wt_env::memory::OutOfMemory;
 use wt_env::seq::Seq;
-use wt_env::types::{ModuleTypes, VMSharedTypeIndex, WasmRecGroup, WasmSubType};
+use wt_env::types::{ModuleTypes, VMSharedTypeIndex, WasmSubType};
 use wt_holds::inner::TypeRegistryInner;
 use wt_holds::removal::{end_hold, release_groups, sweep_group};
 use wt_keys::search::{borrow_from, live_groups, number_at, trampoline_of};
+use wt_keys::subtyping::is_subtype_of;
 use wt_model::ever::EverRegistered;
 use wt_model::live::LiveGroup;
 use wt_model::refusal::{BuildRefusal, Full};
 use wt_model::swept::Swept;
-use wt_plan::plan::{Plan, plan_groups, plan_key};
+use wt_plan::plan::{Plan, plan_groups};
 use wt_rules::rules::{are_functions, first_broken};
 
 /// The recursion groups that an engine has registered.
 #[derive(Drop)]
 pub struct TypeRegistry {
-    alloc: Global,
-    engine: Engine,
-    groups: TypeRegistryInner,
+    pub(crate) alloc: Global,
+    pub(crate) engine: Engine,
+    pub(crate) groups: TypeRegistryInner,
 }
 
 impl Model for TypeRegistry {
@@ -41,16 +42,17 @@ impl Model for TypeRegistry {
 }
 
 impl TypeRegistry {
-    ghost use Rattle.std.specs.Prelude.{◌≡◌, ℕ, ◌<◌, ◌≤◌, ◌∷◌, [], ◌↔◌, map, false, None, IsTrue, IsSome, IfOk, IfErr, OnOk, OnErr, Ok, Err, Some, true, option_map, option_and_then};
+    ghost use Rattle.std.specs.Prelude.{◌≡◌, ℕ, ◌<◌, ◌≤◌, ◌∷◌, [], ◌↔◌, map, false, None, IsTrue, IsSome, IfOk, IfErr, OnOk, OnErr, Ok, Err, Some, true, is_some, option_map, option_and_then};
     ghost use Rattle.std.specs.Option.{option_copied};
-    ghost use Rattle.wt_tree.specs.NumberFunction.{is_number_function};
     ghost use Rattle.wt_rules.specs.Rules.{AreCountable, AreModuleTypes};
     ghost use Rattle.wt_model.specs.Registered.{empty_registry};
     ghost use Rattle.wt_tree.specs.Trampoline.{trampoline};
+    ghost use Rattle.wt_tree.specs.Subtyping.{TellsSteps};
     ghost use Rattle.wt_model.specs.Indices.{locate, number_of, closed_tree};
     ghost use Rattle.wt_model.specs.Trampolines.{trampoline_index, trampolines_of};
     ghost use Rattle.wt_model.specs.FunctionIndices.{IsFunctionIndex};
     ghost use Rattle.wt_model.specs.Shown.{sub_type_at};
+    ghost use Rattle.wt_model.specs.Subtyping.{is_subtype_index};
     ghost use Rattle.wt_model.specs.Live.{live_of};
     ghost use Rattle.wt_model.specs.Holds.{hold, held_at, IsHolding};
     ghost use Rattle.wt_model.specs.Registration.{Registration, host_type, module_groups, trees_of, registration_refusal, IsRefusal, register as register_of, register_groups};
@@ -103,9 +105,23 @@ impl TypeRegistry {
         borrow_from(self.groups.entries.as_slice(), index)
     }
 
+    /// Whether zero or more declared supertype steps lead from the type with the index `sub` to the one with the
+    /// index `sup`, both registered (WebAssembly 3.0, "Matching"). It takes no memory.
+    pub fn is_subtype(&self, sub: VMSharedTypeIndex, sup: VMSharedTypeIndex) -> bool
+        requires sub { IsSome (locate self.now.made sub) }
+        requires sup { IsSome (locate self.now.made sup) }
+        ensures steps { TellsSteps (closed_tree self.now.made) sub sup result }
+        ensures value { result ≡ is_subtype_index self.now.made sub sup }
+        ensures own { sub ≡ sup → IsTrue result }
+    {
+        self.assure();
+        is_subtype_of(self.groups.entries.as_slice(), sub, sup)
+    }
+
     /// Whether the index names a registered function type.
     pub fn is_function_index(&self, index: VMSharedTypeIndex) -> bool
-        ensures { IsTrue result ↔ IsFunctionIndex self.now.made index }
+        ensures function { IsTrue result ↔ IsFunctionIndex self.now.made index }
+        ensures trampoline { result ≡ is_some (trampoline_index self.now.made index) }
     {
         trampoline_of(self.groups.entries.as_slice(), index).is_some()
     }
@@ -151,39 +167,6 @@ impl TypeRegistry {
         debt.forget();
         let _bounded = self.engine.limits();
         sweep_group(&mut self.groups, number)
-    }
-
-    /// One more hold of a party on the group of this one type, which is registered now if it wasn't. Answers
-    /// its registration number and the index of its type.
-    pub(crate) fn register(
-        &mut self,
-        party: u32,
-        ty: WasmSubType,
-    ) -> Result<(u64, VMSharedTypeIndex), BuildRefusal>
-        requires plain { is_number_function ty ≡ true }
-        requires party { party < self.old.engine.limits.parties }
-        ensures ok { IfOk result (λ entered. register_of self.old party ty
-            ≡ Ok (record { engine = self.old.engine.number; index = entered.1; number = entered.0; party = party }, self.new)) }
-        ensures refused { IfErr result (λ why. IsRefusal (registration_refusal self.old party (host_type ty)) why) }
-        ensures named { IfOk result (λ entered. closed_tree self.new.made entered.1 ∷ [] ≡ map Some (trees_of self.old.made (host_type ty))) }
-        ensures located { IfOk result (λ entered. number_of self.new.made entered.1 ≡ Some entered.0) }
-        ensures changes { IfOk result (λ entered. HoldChanges self.old self.new party (entered.0 ∷ [])) }
-        ensures err { OnErr result (self.new ≡ self.old) }
-        ensures sound { IsSound self.new }
-    {
-        let key = WasmRecGroup {
-            types: Seq::one(self.alloc, ty)?,
-        };
-        let mut plan = Plan::new(self.alloc, self.groups.given);
-        plan_key(self.alloc, self.groups.entries.as_slice(), &mut plan, key)?;
-        let (numbers, map) = check_and_commit(
-            self.alloc,
-            &self.engine,
-            &mut self.groups,
-            party,
-            plan,
-        )?;
-        Ok((numbers[0], map[0]))
     }
 
     /// Registers the recursion groups of a module for a party, and gives the party one hold of each group for

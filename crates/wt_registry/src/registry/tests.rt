@@ -7,10 +7,13 @@ use std::test::Fail;
 use wt_env::limits::{EngineLimits, Limit};
 use wt_env::types::{
     EngineOrModuleTypeIndex, ModuleInternedTypeIndex, WasmCompositeInnerType, WasmFieldType,
-    WasmFuncType, WasmHeapType, WasmRefType, WasmStorageType, WasmStructType, WasmValType,
+    WasmFuncType, WasmHeapType, WasmRecGroup, WasmRefType, WasmStorageType, WasmStructType,
+    WasmValType,
 };
 use wt_rules::place::{Place, Rule};
 use wt_rules::rules::{are_countable, are_module_types};
+use wt_tree::laws::{BothWays, antisymmetric};
+use wt_tree::supers::Types;
 
 /// The final struct of one field, a reference to a struct of the module.
 fn structure(alloc: Global, mutable: bool, index: u32) -> Result<WasmSubType, OutOfMemory> {
@@ -41,13 +44,6 @@ fn function(alloc: Global) -> WasmSubType {
             results: Seq::new(alloc),
         }),
     }
-}
-
-/// A group of one type.
-fn alone(alloc: Global, ty: WasmSubType) -> Result<WasmRecGroup, OutOfMemory> {
-    Ok(WasmRecGroup {
-        types: Seq::one(alloc, ty)?,
-    })
 }
 
 /// A group of two types.
@@ -132,8 +128,8 @@ fn mutual_groups_meet(rt: HostRuntime) -> Result<(), Fail> {
 #[test]
 fn what_is_reached_stays(rt: HostRuntime) -> Result<(), Fail> {
     let alloc = rt.alloc();
-    let first = alone(alloc, structure(alloc, false, 0)?)?;
-    let second = alone(alloc, structure(alloc, false, 0)?)?;
+    let first = WasmRecGroup::alone(alloc, structure(alloc, false, 0)?)?;
+    let second = WasmRecGroup::alone(alloc, structure(alloc, false, 0)?)?;
     let types = two_groups(alloc, first, second)?;
     assert!(rt; are_countable(&types) && are_module_types(&types));
     assert!(rt; EngineLimits::USUAL.valid());
@@ -163,8 +159,8 @@ fn a_release_removes_at_once(rt: HostRuntime) -> Result<(), Fail> {
     let alloc = rt.alloc();
     let equal = two_groups(
         alloc,
-        alone(alloc, function(alloc))?,
-        alone(alloc, function(alloc))?,
+        WasmRecGroup::alone(alloc, function(alloc))?,
+        WasmRecGroup::alone(alloc, function(alloc))?,
     )?;
     let members = one_group(alloc, pair(alloc, function(alloc), function(alloc))?)?;
     assert!(rt; are_countable(&equal) && are_module_types(&equal));
@@ -206,9 +202,12 @@ fn is_refused(
 #[test]
 fn modules_are_refused(rt: HostRuntime) -> Result<(), Fail> {
     let alloc = rt.alloc();
-    let later = one_group(alloc, alone(alloc, structure(alloc, false, 1)?)?)?;
-    let first = alone(alloc, structure(alloc, false, 0)?)?;
-    let second = alone(alloc, structure(alloc, false, 0)?)?;
+    let later = one_group(
+        alloc,
+        WasmRecGroup::alone(alloc, structure(alloc, false, 1)?)?,
+    )?;
+    let first = WasmRecGroup::alone(alloc, structure(alloc, false, 0)?)?;
+    let second = WasmRecGroup::alone(alloc, structure(alloc, false, 0)?)?;
     let types = two_groups(alloc, first, second)?;
     assert!(rt; are_countable(&later) && are_module_types(&later));
     assert!(rt; are_countable(&types) && are_module_types(&types));
@@ -252,8 +251,8 @@ fn a_trampoline_is_told(rt: HostRuntime) -> Result<(), Fail> {
     };
     let types = two_groups(
         alloc,
-        alone(alloc, subtype)?,
-        alone(alloc, function(alloc))?,
+        WasmRecGroup::alone(alloc, subtype)?,
+        WasmRecGroup::alone(alloc, function(alloc))?,
     )?;
     assert!(rt; are_countable(&types) && are_module_types(&types));
     assert!(rt; EngineLimits::USUAL.valid());
@@ -274,5 +273,83 @@ fn a_trampoline_is_told(rt: HostRuntime) -> Result<(), Fail> {
     );
     assert_eq!(rt; module.trampoline_type(index), None);
     module.forget();
+    Ok(())
+}
+
+/// A struct without fields, below a type of the module or below none.
+fn struct_below(alloc: Global, is_final: bool, supertype: Option<u32>) -> WasmSubType {
+    let supertype = match supertype {
+        Some(index) => Some(EngineOrModuleTypeIndex::Module(ModuleInternedTypeIndex(index))),
+        None => None,
+    };
+    WasmSubType {
+        is_final,
+        supertype,
+        composite_type: WasmCompositeInnerType::Struct(WasmStructType {
+            fields: Seq::new(alloc),
+        }),
+    }
+}
+
+/// An open struct, an open one below it, and a final one below that.
+fn chain(alloc: Global) -> Result<ModuleTypes, OutOfMemory> {
+    let mut groups = Seq::one(
+        alloc,
+        WasmRecGroup::alone(alloc, struct_below(alloc, false, None))?,
+    )?;
+    groups.push(WasmRecGroup::alone(alloc, struct_below(alloc, false, Some(0)))?)?;
+    groups.push(WasmRecGroup::alone(alloc, struct_below(alloc, true, Some(1)))?)?;
+    Ok(ModuleTypes { groups })
+}
+
+fn is_below(rt: &impl Abort, registry: &TypeRegistry, sub: u32, sup: u32) -> bool {
+    let sub = VMSharedTypeIndex::new(sub);
+    let sup = VMSharedTypeIndex::new(sup);
+    assert!(rt; registry.contains(sub) && registry.contains(sup));
+    registry.is_subtype(sub, sup)
+}
+
+/// The same both ways, as whatever compares types answers it.
+fn both_ways(rt: &impl Abort, registry: &TypeRegistry, sub: u32, sup: u32) -> BothWays {
+    let sub = VMSharedTypeIndex::new(sub);
+    let sup = VMSharedTypeIndex::new(sup);
+    assert!(rt; registry.contains(sub) && registry.contains(sup));
+    antisymmetric(registry, sub, sup)
+}
+
+fn has_type<T: Types>(types: &T, index: u32) -> bool {
+    types.borrow(VMSharedTypeIndex::new(index)).is_some()
+}
+
+#[test]
+fn declared_supertypes_lead_on(rt: HostRuntime) -> Result<(), Fail> {
+    let alloc = rt.alloc();
+    let chain = chain(alloc)?;
+    let members = one_group(alloc, pair(alloc, function(alloc), function(alloc))?)?;
+    assert!(rt; are_countable(&chain) && are_module_types(&chain));
+    assert!(rt; are_countable(&members) && are_module_types(&members));
+    assert!(rt; EngineLimits::USUAL.valid());
+    let engine = Engine::new(1, EngineLimits::USUAL, true);
+    let mut registry = TypeRegistry::new(alloc, &engine);
+    let mut party = PartyNumber::new(0);
+    let structs = registry
+        .register_module(&mut party, &chain)
+        .expect(&rt, "three structs");
+    let functions = registry
+        .register_module(&mut party, &members)
+        .expect(&rt, "one group of two functions");
+    has_indices(&rt, &structs, &[0, 1, 2]);
+    has_indices(&rt, &functions, &[3, 4]);
+    assert!(rt; is_below(&rt, &registry, 2, 0));
+    assert!(rt; !is_below(&rt, &registry, 0, 2));
+    assert!(rt; is_below(&rt, &registry, 2, 2));
+    let neither = BothWays {
+        there: false,
+        back: false,
+    };
+    assert_eq!(rt; both_ways(&rt, &registry, 3, 4), neither);
+    assert!(rt; has_type(&registry, 4) && !has_type(&registry, 5));
+    structs.forget();
+    functions.forget();
     Ok(())
 }

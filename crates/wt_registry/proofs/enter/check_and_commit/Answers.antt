@@ -76,32 +76,28 @@ pub returns-in_err-reserve_groups-clause-kept : goal.returns-in_err-reserve_grou
 returns-in_err-reserve_groups-clause-kept c =
     kept-same c.args.engine.now c.args.groups.now c.reserve_groups.new.groups c.requires.kept c.reserve_groups.ensures.entries c.reserve_groups.ensures.counts c.reserve_groups.ensures.marks c.reserve_groups.ensures.given
 
+new_rows : (c : goal.After-insert_entries-arg-1) → standings_of c.in_ok-rows.rows.items ≡ map (new_holds c.args.engine.now) (made_by c.args.plan.added.items)
+new_rows c =
+    rows_are c.args.engine.now c.limits.result.parties c.in_ok-rows.rows.items c.args.plan.added.items c.as_slice-3.result.now (ap (λ l. l.parties) c.limits.ensures.value) c.as_slice-3.ensures.value
+    c.in_ok-rows.ensures.counts
+
 pub insert_entries-requires-clause-calm : goal.insert_entries-requires-clause-calm
-insert_entries-requires-clause-calm c =
-    let engine = c.args.engine.now in
-    let added = c.args.plan.added.items in
-    let are = rows_are engine c.limits.result.parties c.in_ok-rows.rows.items added c.as_slice-3.result.now (ap (λ l. l.parties) c.limits.ensures.value) c.as_slice-3.ensures.value c.in_ok-rows.ensures.counts in
-    calm engine c.in_ok-rows.rows.items added are
+insert_entries-requires-clause-calm c = calm c.args.engine.now c.in_ok-rows.rows.items c.args.plan.added.items (new_rows c)
 
 pub insert_entries-requires-clause-parties : goal.insert_entries-requires-clause-parties
 insert_entries-requires-clause-parties c =
     let engine = c.args.engine.now in
-    let added = c.args.plan.added.items in
-    let are = rows_are engine c.limits.result.parties c.in_ok-rows.rows.items added c.as_slice-3.result.now (ap (λ l. l.parties) c.limits.ensures.value) c.as_slice-3.ensures.value c.in_ok-rows.ensures.counts in
-    all_places engine c.args.groups.now.counts.items c.reserve_groups.new.groups.counts.items c.in_ok-rows.rows.items added c.args.party c.requires.party c.reserve_groups.ensures.counts
-    (places engine c.args.groups.now c.args.party c.requires.kept c.requires.party) are
+    all_places engine c.args.groups.now.counts.items c.reserve_groups.new.groups.counts.items c.in_ok-rows.rows.items c.args.plan.added.items c.args.party c.requires.party c.reserve_groups.ensures.counts
+    (places engine c.args.groups.now c.args.party c.requires.kept c.requires.party) (new_rows c)
 
 pub insert_entries-requires-clause-room : goal.insert_entries-requires-clause-room
 insert_entries-requires-clause-room c = λ number.
     let engine = c.args.engine.now in
     let groups = c.args.groups.now in
-    let added = c.args.plan.added.items in
     let party = c.args.party in
-    let counts = groups.counts.items in
-    let are = rows_are engine c.limits.result.parties c.in_ok-rows.rows.items added c.as_slice-3.result.now (ap (λ l. l.parties) c.limits.ensures.value) c.as_slice-3.ensures.value c.in_ok-rows.ensures.counts in
     let none = found_is engine groups c.as_slice.result.now c.as_slice-2.result.now c.args.plan party c.in_ok-found.found c.as_slice.ensures.value c.as_slice-2.ensures.value c.in_ok-found.ensures ∙ c.in_default.is in
     let room = room-left (registry_at engine groups) party (plan_of groups.entries.items c.args.plan) c.requires.kept.holds.counted none number in
-    let held = held_then engine counts c.reserve_groups.new.groups.counts.items c.in_ok-rows.rows.items added party number c.reserve_groups.ensures.counts are in
+    let held = held_then engine groups.counts.items c.reserve_groups.new.groups.counts.items c.in_ok-rows.rows.items c.args.plan.added.items party number c.reserve_groups.ensures.counts (new_rows c) in
     let bound : c.limits.result.holds ≡ engine.limits.holds = ap (λ l. l.holds) c.limits.ensures.value in
     let greatest : c.limits.result.holds ≤ 2 ^ 30 = (c.limits.ensures.valid).holds in
     omega (arith, room, held, bound, greatest)
@@ -111,33 +107,33 @@ returns-clause-accepted c =
     found_is c.args.engine.now c.args.groups.now c.as_slice.result.now c.as_slice-2.result.now c.args.plan c.args.party c.in_ok-found.found c.as_slice.ensures.value c.as_slice-2.ensures.value c.in_ok-found.ensures
     ∙ c.in_default.is
 
+-- ---- what is entered
+
+entered : (c : goal.After-insert_entries) → c.insert_entries.new.groups.entries.items ≡ c.args.groups.now.entries.items ++ c.args.plan.added.items
+entered c = c.insert_entries.ensures.entries ∙ ap (λ es. es ++ c.args.plan.added.items) c.reserve_groups.ensures.entries
+
+counted : (c : goal.After-insert_entries)
+    → standings_of c.insert_entries.new.groups.counts.items
+    ≡ hold_each c.args.party c.args.plan.numbers.items
+    (stop_waiting_each (made_by c.args.plan.added.items) (standings_of c.args.groups.now.counts.items) ++ map (new_holds c.args.engine.now) (made_by c.args.plan.added.items))
+counted c =
+    let stood = c.reserve_groups.ensures.counts in
+    let are =
+    rows_are c.args.engine.now c.limits.result.parties c.in_ok-rows.rows.items c.args.plan.added.items c.as_slice-3.result.now (ap (λ l. l.parties) c.limits.ensures.value) c.as_slice-3.ensures.value
+    c.in_ok-rows.ensures.counts in
+    c.insert_entries.ensures.counts ∙ (λ i. hold_each c.args.party c.args.plan.numbers.items (stop_waiting_each (made_by c.args.plan.added.items) (standings_of (stood i)) ++ are i))
+
 pub returns-clause-ok : goal.returns-clause-ok
 returns-clause-ok c =
-    let engine = c.args.engine.now in
-    let groups = c.args.groups.now in
-    let plan = c.args.plan in
-    let added = plan.added.items in
-    let are = rows_are engine c.limits.result.parties c.in_ok-rows.rows.items added c.as_slice-3.result.now (ap (λ l. l.parties) c.limits.ensures.value) c.as_slice-3.ensures.value c.in_ok-rows.ensures.counts in
-    let stood = c.reserve_groups.ensures.counts in
-    carried-at engine groups plan c.args.party c.requires.kept c.requires.party c.requires.keys c.requires.occurs (returns-clause-accepted c) c.insert_entries.new.groups
-    (c.insert_entries.ensures.entries ∙ ap (λ es. es ++ added) c.reserve_groups.ensures.entries)
-    c.insert_entries.ensures.given
-    (c.insert_entries.ensures.counts ∙ (λ i. hold_each c.args.party plan.numbers.items (stop_waiting_each (made_by added) (standings_of (stood i)) ++ are i)))
+    carried-at c.args.engine.now c.args.groups.now c.args.plan c.args.party c.requires.kept c.requires.party c.requires.keys c.requires.occurs (returns-clause-accepted c) c.insert_entries.new.groups
+    (entered c) c.insert_entries.ensures.given (counted c)
 
 pub returns-clause-kept : goal.returns-clause-kept
 returns-clause-kept c =
-    let engine = c.args.engine.now in
-    let groups = c.args.groups.now in
-    let plan = c.args.plan in
-    let added = plan.added.items in
-    let are = rows_are engine c.limits.result.parties c.in_ok-rows.rows.items added c.as_slice-3.result.now (ap (λ l. l.parties) c.limits.ensures.value) c.as_slice-3.ensures.value c.in_ok-rows.ensures.counts in
-    let stood = c.reserve_groups.ensures.counts in
-    kept-carried engine groups plan c.args.party c.requires.kept c.requires.party c.requires.keys c.requires.occurs (returns-clause-accepted c) c.insert_entries.new.groups
-    (c.insert_entries.ensures.entries ∙ ap (λ es. es ++ added) c.reserve_groups.ensures.entries)
-    c.insert_entries.ensures.given
-    (c.insert_entries.ensures.counts ∙ (λ i. hold_each c.args.party plan.numbers.items (stop_waiting_each (made_by added) (standings_of (stood i)) ++ are i)))
+    kept-carried c.args.engine.now c.args.groups.now c.args.plan c.args.party c.requires.kept c.requires.party c.requires.keys c.requires.occurs (returns-clause-accepted c) c.insert_entries.new.groups
+    (entered c) c.insert_entries.ensures.given (counted c)
     c.requires.shown c.requires.below
-    (c.insert_entries.ensures.marks ∙ ap (λ ms. length ms + length added) c.reserve_groups.ensures.marks)
+    (c.insert_entries.ensures.marks ∙ ap (λ ms. length ms + length c.args.plan.added.items) c.reserve_groups.ensures.marks)
 
 pub returns-clause-changes : goal.returns-clause-changes
 returns-clause-changes c =

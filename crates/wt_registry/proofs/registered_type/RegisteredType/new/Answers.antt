@@ -1,25 +1,139 @@
--- the hold is that of the registration
-use Rattle.std.proofs.Common.{ℕ, [], ◌∷◌, ap, sym, subst, ◌∙◌, arith}
+-- a plan of one key, carried out
+use Rattle.std.proofs.Common.{◌≡◌, ℕ, [], ◌∷◌, ◌++◌, slice_get, Some, Ok, IfErr, Result, Err, sym, ap, subst, ◌∙◌, arith}
+use Rattle.std.specs.Result.{IsErrAnd}
 use Rattle.wt_env.specs.Limits.{EngineParts}
+use Rattle.wt_model.specs.declared.refusal.BuildRefusal.{BuildRefusal}
 use Rattle.wt_model.specs.Holds.{held_at}
+use Rattle.wt_model.specs.Registered.{Registry}
+use Rattle.wt_model.specs.Registration.{host_type, registration_refusal, IsRefusal, register}
+use Rattle.wt_model.specs.Sound.{IsSound}
 use Rattle.wt_model.specs.Changes.{HoldChanges}
 use Rattle.wt_model.proofs.holds.HeldEach.{times-own}
+use Rattle.wt_keys.specs.Entries.{made_by}
+use Rattle.wt_keys.specs.Keys.{KeyNamesTypes}
+use Rattle.wt_plan.proofs.HostKeys.{host-kinds}
+use Rattle.wt_holds.specs.Kept.{registry_at}
+use Rattle.wt_registry.proofs.OnePlanned.{IsPlanned, is_planned, plain-named, one-occurs, one-below, first-number, first-place, own-numbers, accepts, registers, named, is_at, refused}
+use Rattle.wt_registry.proofs.Soundness.{sound}
 use Rattle.wt_registry.proofs.registered_type.RegisteredType.new.Goals as goal
+
+pub returns-in_err-key-clause-sound : goal.returns-in_err-key-clause-sound
+returns-in_err-key-clause-sound c = subst IsSound c.registry.view_is (sound c.registry.inside.engine c.registry.inside.groups c.registry.invariant)
+
+pub plan_key-requires-clause-named : goal.plan_key-requires-clause-named
+plan_key-requires-clause-named c = plain-named (made_by (c.as_slice-entries.result.now ++ c.new-plan.result.added.items)) c.in_ok-key.key.types c.args.ty c.requires.plain c.in_ok-key.ensures
+
+-- the key of one function over numbers has no index in it
+pub plan_key-requires-clause-kinds : goal.plan_key-requires-clause-kinds
+plan_key-requires-clause-kinds c =
+    let made = made_by (c.as_slice-entries.result.now ++ c.new-plan.result.added.items) in
+    subst (KeyNamesTypes made) (sym c.in_ok-key.ensures) (host-kinds made c.args.ty c.requires.plain)
+
+pub returns-in_err-plan_key-clause-sound : goal.returns-in_err-plan_key-clause-sound
+returns-in_err-plan_key-clause-sound c = subst IsSound c.registry.view_is (sound c.registry.inside.engine c.registry.inside.groups c.registry.invariant)
+
+planned : (c : goal.After-check_and_commit-arg-3-1) → IsPlanned c.registry.inside.engine c.registry.inside.groups c.plan_key.new.plan c.args.registry.now c.args.ty
+planned c =
+    is_planned c.registry.inside.engine c.registry.inside.groups c.as_slice-entries.result.now c.new-plan.result c.plan_key.new.plan c.in_ok-key.key.types c.args.registry.now c.args.ty
+    c.as_slice-entries.ensures.value c.in_ok-key.ensures c.registry.view_is c.new-plan.ensures.added c.new-plan.ensures.given c.new-plan.ensures.numbers c.new-plan.ensures.map
+    c.in_ok-plan_key.ensures.ok c.in_ok-plan_key.ensures.keys c.in_ok-plan_key.ensures.one
+
+pub check_and_commit-requires-clause-below : goal.check_and_commit-requires-clause-below
+check_and_commit-requires-clause-below c =
+    one-below c.registry.inside.groups.entries.items c.registry.inside.groups.given.numbers c.plan_key.new.plan (c.args.ty ∷ []) (planned c).one
+
+pub check_and_commit-requires-clause-occurs : goal.check_and_commit-requires-clause-occurs
+check_and_commit-requires-clause-occurs c =
+    one-occurs c.registry.inside.groups.entries.items c.registry.inside.groups.given.numbers c.plan_key.new.plan (c.args.ty ∷ []) (planned c).one
+
+pub check_and_commit-requires-clause-shown : goal.check_and_commit-requires-clause-shown
+check_and_commit-requires-clause-shown c = (planned c).one.shown
+
+-- an error that is handed on keeps its cause
+handed : {A : Type 0} (result : Result A BuildRefusal) (why : BuildRefusal) (P : BuildRefusal → Type 0) → IsErrAnd result (λ refusal. refusal ≡ why) → P why → IfErr result P
+handed (Ok x) why P is p = absurd is
+handed (Err e) why P is p = subst P (sym is) p
+
+pub returns-in_err-numbers-clause-refused : goal.returns-in_err-numbers-clause-refused
+returns-in_err-numbers-clause-refused c =
+    let groups = c.registry.inside.groups in
+    let planned =
+    is_planned c.registry.inside.engine groups c.as_slice-entries.result.now c.new-plan.result c.plan_key.new.plan c.in_ok-key.key.types c.args.registry.now c.args.ty
+    c.as_slice-entries.ensures.value c.in_ok-key.ensures c.registry.view_is c.new-plan.ensures.added c.new-plan.ensures.given c.new-plan.ensures.numbers c.new-plan.ensures.map
+    c.in_ok-plan_key.ensures.ok c.in_ok-plan_key.ensures.keys c.in_ok-plan_key.ensures.one in
+    let cause =
+    ap (λ (party : ℕ). registration_refusal c.args.registry.now party (host_type c.args.ty)) (sym c.number-owner.ensures)
+    ∙ refused c.registry.inside.engine groups c.plan_key.new.plan c.args.registry.now c.args.ty planned c.number-owner.result c.registry.view_is c.requires.plain in
+    handed c.from_residual-in_err-numbers.result c.in_err-numbers.field-0.0 (IsRefusal (registration_refusal c.args.registry.now c.args.party.now (host_type c.args.ty))) c.from_residual-in_err-numbers.ensures.1
+    (subst (λ why. IsRefusal why c.in_err-numbers.field-0.0) (sym cause) c.in_err-numbers.ensures.refused)
+
+pub returns-in_err-numbers-clause-sound : goal.returns-in_err-numbers-clause-sound
+returns-in_err-numbers-clause-sound c = sound c.registry.inside.engine c.check_and_commit.new.groups c.check_and_commit.ensures.kept
+
+-- ---- the hold
+
+facts : (c : goal.After-drop-numbers) → IsPlanned c.registry.inside.engine c.registry.inside.groups c.plan_key.new.plan c.args.registry.now c.args.ty
+facts c =
+    is_planned c.registry.inside.engine c.registry.inside.groups c.as_slice-entries.result.now c.new-plan.result c.plan_key.new.plan c.in_ok-key.key.types c.args.registry.now c.args.ty
+    c.as_slice-entries.ensures.value c.in_ok-key.ensures c.registry.view_is c.new-plan.ensures.added c.new-plan.ensures.given c.new-plan.ensures.numbers c.new-plan.ensures.map
+    c.in_ok-plan_key.ensures.ok c.in_ok-plan_key.ensures.keys c.in_ok-plan_key.ensures.one
+
+number_read : (c : goal.After-drop-numbers) → slice_get c.plan_key.new.plan.numbers.items 0 ≡ Some c.index-2.result.now
+number_read c =
+    first-number c.registry.inside.engine c.registry.inside.groups c.plan_key.new.plan c.args.registry.now c.args.ty (facts c)
+    c.in_ok-numbers.numbers.items c.index-2.result.now c.in_ok-numbers.ensures.numbers c.index-2.ensures
+
+index_read : (c : goal.After-drop-numbers) → slice_get c.plan_key.new.plan.map.items 0 ≡ Some c.index.result.now
+index_read c =
+    first-place c.registry.inside.engine c.registry.inside.groups c.plan_key.new.plan c.args.registry.now c.args.ty (facts c)
+    c.in_ok-numbers.map.items c.index.result.now c.in_ok-numbers.ensures.map c.index.ensures
+
+engine_number : (c : goal.After-drop-numbers) → (c.args.registry.now).engine.number ≡ c.number.result
+engine_number c = ap (λ (r : Registry). r.engine.number) (sym c.registry.view_is) ∙ sym c.number.ensures
+
+pub returns-clause-ok : goal.returns-clause-ok
+returns-clause-ok c =
+    let engine = engine_number c in
+    let after = registry_at c.registry.inside.engine c.check_and_commit.new.groups in
+    ap (λ (party : ℕ). register c.args.registry.now party c.args.ty) (sym c.number-owner.ensures)
+    ∙ registers c.registry.inside.engine c.registry.inside.groups c.plan_key.new.plan c.args.registry.now c.args.ty (facts c) c.registry.invariant c.registry.view_is c.check_and_commit.new.groups c.number-owner.result
+    c.index-2.result.now c.index.result.now c.requires.plain c.in_ok-numbers.ensures.accepted c.in_ok-numbers.ensures.ok (number_read c) (index_read c)
+    ∙ (λ i. Ok (record { engine = engine i; index = c.index.result.now; number = c.index-2.result.now; party = c.number-owner.result }, after))
+
+pub returns-clause-accepted : goal.returns-clause-accepted
+returns-clause-accepted c =
+    ap (λ (party : ℕ). registration_refusal c.args.registry.now party (host_type c.args.ty)) (sym c.number-owner.ensures)
+    ∙ accepts c.registry.inside.engine c.registry.inside.groups c.plan_key.new.plan c.args.registry.now c.args.ty (facts c) c.number-owner.result c.registry.view_is c.requires.plain c.in_ok-numbers.ensures.accepted
+
+pub returns-clause-named : goal.returns-clause-named
+returns-clause-named c =
+    named c.registry.inside.engine c.registry.inside.groups c.plan_key.new.plan c.args.registry.now c.args.ty (facts c) c.registry.invariant c.registry.view_is c.check_and_commit.new.groups c.number-owner.result
+    c.index-2.result.now c.index.result.now c.requires.plain c.in_ok-numbers.ensures.accepted c.in_ok-numbers.ensures.ok (number_read c) (index_read c)
 
 pub returns-clause-changes : goal.returns-clause-changes
 returns-clause-changes c =
-    subst (λ (party : ℕ). HoldChanges c.args.registry.now c.register.new.self party (c.in_ok-number.number ∷ [])) c.number.ensures c.in_ok-number.ensures.changes
+    let numbers = own-numbers c.registry.inside.engine c.registry.inside.groups c.plan_key.new.plan c.args.registry.now c.args.ty (facts c) c.index-2.result.now (number_read c) in
+    let after = registry_at c.registry.inside.engine c.check_and_commit.new.groups in
+    subst (λ (party : ℕ). HoldChanges c.args.registry.now after party (c.index-2.result.now ∷ [])) c.number-owner.ensures
+    (subst (λ (registry : Registry). HoldChanges registry after c.number-owner.result (c.index-2.result.now ∷ [])) c.registry.view_is
+    (subst (HoldChanges (registry_at c.registry.inside.engine c.registry.inside.groups) after c.number-owner.result) (c.in_ok-numbers.ensures.numbers ∙ numbers) c.in_ok-numbers.ensures.changes))
 
 pub returns-clause-held : goal.returns-clause-held
 returns-clause-held c =
     let changes = returns-clause-changes c in
-    let more = changes.more c.in_ok-number.number in
-    let once = times-own c.in_ok-number.number [] in
-    let same = ap (λ (party : ℕ). held_at c.register.new.self.standings party c.in_ok-number.number) c.number-2.ensures in
+    let after = registry_at c.registry.inside.engine c.check_and_commit.new.groups in
+    let more = changes.more c.index-2.result.now in
+    let once = times-own c.index-2.result.now [] in
+    let same = ap (λ (party : ℕ). held_at after.standings party c.index-2.result.now) c.number-owner.ensures in
     let parties = ap (λ (e : EngineParts). e.limits.parties) changes.engine in
     record {
-      engine = ap (λ (e : EngineParts). e.number) changes.engine ∙ ap (λ (e : EngineParts). e.number) (sym c.engine.ensures) ∙ sym c.number-engine.ensures;
-      party = omega (arith, parties, c.number-2.ensures, c.requires.party);
+      engine = sym c.number.ensures;
+      party = omega (arith, parties, c.number-owner.ensures, c.requires.party);
       held = omega (arith, more, once, same);
-      located = c.in_ok-number.ensures.located;
+      located =
+          is_at c.registry.inside.engine c.registry.inside.groups c.plan_key.new.plan c.args.registry.now c.args.ty (facts c) c.registry.invariant c.registry.view_is c.check_and_commit.new.groups c.number-owner.result
+          c.index-2.result.now c.index.result.now c.requires.plain c.in_ok-numbers.ensures.accepted c.in_ok-numbers.ensures.ok (number_read c) (index_read c);
     }
+
+pub returns-clause-sound : goal.returns-clause-sound
+returns-clause-sound c = sound c.registry.inside.engine c.check_and_commit.new.groups c.check_and_commit.ensures.kept

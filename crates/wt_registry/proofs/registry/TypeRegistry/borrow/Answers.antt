@@ -1,16 +1,13 @@
 -- an index has a sub type exactly where it is located
-use Rattle.std.proofs.Common.{◌≡◌, Option, Some, None, is_some, option_map, refl, sym, ap, subst, ◌∙◌}
+use Rattle.std.proofs.Common.{◌≡◌, is_some, sym, ap, subst, ◌∙◌}
 use Rattle.wt_model.specs.Registered.{Registry}
 use Rattle.wt_model.specs.Indices.{locate}
 use Rattle.wt_keys.specs.Entries.{made_by}
 use Rattle.wt_model.specs.Shown.{sub_type_at}
+use Rattle.wt_model.proofs.trees.KnownTrees.{is_some-map}
 use Rattle.wt_keys.specs.Keys.{AreShown}
 use Rattle.wt_keys.proofs.Borrowed.{borrowed-located}
 use Rattle.wt_registry.proofs.registry.TypeRegistry.borrow.Goals as goal
-
-is_some-map : {A B : Type 0} (f : A → B) (o : Option A) → is_some (option_map f o) ≡ is_some o
-is_some-map f (Some x) = refl
-is_some-map f None = refl
 
 pub borrow_from-requires-clause-shown : goal.borrow_from-requires-clause-shown
 borrow_from-requires-clause-shown c = subst AreShown (sym c.as_slice.ensures.value) c.self.invariant.shown
