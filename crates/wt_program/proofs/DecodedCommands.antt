@@ -15,7 +15,7 @@ use Rattle.wt_session.specs.World.{IsCommand, AreCommands}
 use Rattle.wt_program.specs.declared.decode.DecodeError.{DecodeError}
 use Rattle.wt_program.specs.declared.decode.Input.{Input}
 use Rattle.wt_program.specs.DecodeEngine.{usual_engine, decode_engine}
-use Rattle.wt_program.specs.Decode.{own_key_count, decode_sub, decode_by, by_and_number, decode_live, type_from, decode_type, module_from, decode_module, decode_clone, decode_root, decode_drop, decode_sweep, decode_release, decode_named_type, trampoline_from, decode_trampoline, command_called, decode_command, put_first, decode_commands, with_engine, decode_list, decode}
+use Rattle.wt_program.specs.Decode.{own_key_count, decode_sub, decode_by, by_and_number, decode_live, type_from, decode_type, module_from, decode_module, decode_clone, decode_root, decode_drop, decode_sweep, decode_release, decode_named_type, trampoline_from, decode_trampoline, named_type_at, subtype_from, decode_subtype, command_called, decode_command, put_first, decode_commands, with_engine, decode_list, decode}
 use Rattle.wt_program.specs.ItemCount.{item_count, items_count}
 use Rattle.wt_program.proofs.Decoding.{any_value, mapped, chained, either}
 use Rattle.wt_program.proofs.DecodedItems.{list_items, value_items, decoded_items}
@@ -61,6 +61,14 @@ trampoline_fits d =
     either IsCommand (own_key_count d == 2) _ None
     (chained (λ by. ⊤) IsCommand (λ by. trampoline_from by d) (λ by any. plain (command.Trampoline by) (λ ty. tt) (option_and_then decode_named_type (get (codes "type") d))) (decode_by d) (any_value (decode_by d))) tt
 
+subtype_from_fits : (by : ℕ) (d : Data) → IfSome (subtype_from by d) IsCommand
+subtype_from_fits by d =
+    chained (λ sub. ⊤) IsCommand (λ sub. option_map (command.Subtype by sub) (named_type_at (codes "sup") d)) (λ sub any. plain (command.Subtype by sub) (λ sup. tt) (named_type_at (codes "sup") d)) (named_type_at (codes "sub") d)
+    (any_value (named_type_at (codes "sub") d))
+
+subtype_fits : (d : Data) → IfSome (decode_subtype d) IsCommand
+subtype_fits d = either IsCommand (own_key_count d == 3) _ None (chained (λ by. ⊤) IsCommand (λ by. subtype_from by d) (λ by any. subtype_from_fits by d) (decode_by d) (any_value (decode_by d))) tt
+
 called_fits : (word : List ℕ) (d : Data) → item_count d < 2 ^ 32 → IfSome (command_called word d) IsCommand
 called_fits word d short =
     either IsCommand (bytes_eq word (codes "live")) (decode_live d) _ (live_fits d) (
@@ -71,7 +79,8 @@ called_fits word d short =
     either IsCommand (bytes_eq word (codes "drop")) (decode_drop d) _ (plain (λ numbers. command.Drop numbers.0 numbers.1) (λ numbers. tt) (by_and_number (codes "handle") d)) (
     either IsCommand (bytes_eq word (codes "sweep")) (decode_sweep d) _ (plain (λ numbers. command.Sweep numbers.0 numbers.1) (λ numbers. tt) (by_and_number (codes "handle") d)) (
     either IsCommand (bytes_eq word (codes "release")) (decode_release d) _ (plain (λ numbers. command.Release numbers.0 numbers.1) (λ numbers. tt) (by_and_number (codes "handle") d)) (
-    either IsCommand (bytes_eq word (codes "trampoline")) (decode_trampoline d) None (trampoline_fits d) tt))))))))
+    either IsCommand (bytes_eq word (codes "trampoline")) (decode_trampoline d) _ (trampoline_fits d) (
+    either IsCommand (bytes_eq word (codes "subtype")) (decode_subtype d) None (subtype_fits d) tt)))))))))
 
 command_fits : (d : Data) → item_count d < 2 ^ 32 → IfSome (decode_command d) IsCommand
 command_fits d short =

@@ -23,8 +23,8 @@ use Rattle.wt_env.specs.declared.types.WasmCompositeInnerType.{WasmCompositeInne
 use Rattle.wt_env.specs.declared.types.WasmCompositeInnerType.TheVariants as shape
 use Rattle.wt_env.specs.declared.types.WasmSubType.{WasmSubType}
 use Rattle.wt_env.specs.declared.types.WasmRecGroup.{WasmRecGroup}
-use Rattle.wt_registry.specs.Rules.{kinded_heap, kinded_val, kinded_storage, kinded_field, kinded_vals, kinded_shape, is_module_index}
-use Rattle.wt_rules.specs.Rules.{type_indices, AreModuleTypes}
+use Rattle.wt_tree.specs.Kinds.{kinded_heap, kinded_val, kinded_storage, kinded_field, kinded_vals, kinded_shape, type_indices}
+use Rattle.wt_registry.specs.Rules.{is_module_index, AreModuleTypes}
 use Rattle.wt_program.proofs.Decoding.{any_value, mapped, chained, either, found_or, first_or, EachIs, each_among, each_append, each_flat, each_mapped, each_read}
 
 abbrev IsOfModule : EngineOrModuleTypeIndex → Type 0

@@ -4,6 +4,5 @@ pub mod DecodedItems
 pub mod DecodedModules
 pub mod Decoding
 pub mod ItemCount
-pub mod ParsedCount
 pub mod Streams
 pub mod TokenCount

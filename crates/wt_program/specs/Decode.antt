@@ -18,7 +18,7 @@ use Rattle.wt_session.specs.declared.command.HostSub.TheVariants.{Func}
 use Rattle.wt_session.specs.declared.command.NamedType.{NamedType}
 use Rattle.wt_session.specs.declared.command.NamedType.TheVariants as named
 use Rattle.wt_session.specs.declared.command.Command.{Command}
-use Rattle.wt_session.specs.declared.command.Command.TheVariants.{HostType, Module, Clone, Root, Drop, Sweep, Release, Trampoline, Live}
+use Rattle.wt_session.specs.declared.command.Command.TheVariants.{HostType, Module, Clone, Root, Drop, Sweep, Release, Trampoline, Subtype, Live}
 
 -- a number or vector type as a command of the host names it; none for a reference
 abbrev pub host_val : WasmValType → Option HostVal
@@ -140,6 +140,17 @@ trampoline_from by d = option_map (Trampoline by) (option_and_then decode_named_
 abbrev pub decode_trampoline : Data → Option Command
 decode_trampoline d = if own_key_count d == 2 then option_and_then (λ by. trampoline_from by d) (decode_by d) else None
 
+-- the type that is named under a key
+abbrev pub named_type_at : List ℕ → Data → Option NamedType
+named_type_at key d = option_and_then decode_named_type (get key d)
+
+-- {"do": "subtype", "sub": a type that is named, "sup": another}
+abbrev pub subtype_from : ℕ → Data → Option Command
+subtype_from by d = option_and_then (λ sub. option_map (Subtype by sub) (named_type_at (codes "sup") d)) (named_type_at (codes "sub") d)
+
+abbrev pub decode_subtype : Data → Option Command
+decode_subtype d = if own_key_count d == 3 then option_and_then (λ by. subtype_from by d) (decode_by d) else None
+
 -- the command of an object whose key `do` has this word
 abbrev pub command_called : List ℕ → Data → Option Command
 command_called word d =
@@ -151,7 +162,8 @@ command_called word d =
     if bytes_eq word (codes "drop") then decode_drop d else (
     if bytes_eq word (codes "sweep") then decode_sweep d else (
     if bytes_eq word (codes "release") then decode_release d else (
-    if bytes_eq word (codes "trampoline") then decode_trampoline d else None))))))))
+    if bytes_eq word (codes "trampoline") then decode_trampoline d else (
+    if bytes_eq word (codes "subtype") then decode_subtype d else None)))))))))
 
 -- a command: an object whose key `do` says which
 abbrev pub decode_command : Data → Option Command

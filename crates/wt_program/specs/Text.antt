@@ -1,5 +1,5 @@
 -- The reply lines. Numbers are decimal, and each line ends with a line feed.
-use Rattle.std.specs.Prelude.{ℕ, List, [], ◌∷◌, ◌++◌, length, codes}
+use Rattle.std.specs.Prelude.{ℕ, Bool, true, false, List, [], ◌∷◌, ◌++◌, length, codes}
 use Rattle.std.specs.Fmt.{decimal}
 use Rattle.std.specs.List.{flat_map}
 use Rattle.wt_env.specs.declared.limits.Limit.{Limit}
@@ -11,13 +11,13 @@ use Rattle.wt_model.specs.declared.refusal.Full.{Full}
 use Rattle.wt_rules.specs.declared.place.Place.{Place}
 use Rattle.wt_rules.specs.declared.place.Place.TheVariants.{Member}
 use Rattle.wt_rules.specs.declared.place.Rule.{Rule}
-use Rattle.wt_rules.specs.declared.place.Rule.TheVariants.{Forward, Kind}
+use Rattle.wt_rules.specs.declared.place.Rule.TheVariants.{Forward, SuperOrder, Kind}
 use Rattle.wt_model.specs.declared.handle_kind.HandleKind.{HandleKind}
 use Rattle.wt_model.specs.declared.handle_kind.HandleKind.TheVariants as kinds
 use Rattle.wt_session.specs.declared.reply.Refusal.{Refusal}
 use Rattle.wt_session.specs.declared.reply.Refusal.TheVariants as refusals
 use Rattle.wt_session.specs.declared.reply.Reply.{Reply}
-use Rattle.wt_session.specs.declared.reply.Reply.TheVariants.{TypeMade, Module, NoneFound, Owed, Dropped, Swept as SweptReply, Released, Index, Live, Refused}
+use Rattle.wt_session.specs.declared.reply.Reply.TheVariants.{TypeMade, Module, NoneFound, Owed, Dropped, Swept as SweptReply, Released, Index, Answer, Live, Refused}
 
 abbrev pub line_feed : List ℕ
 line_feed = 10 ∷ []
@@ -64,6 +64,7 @@ no_such_type_text party handle ty =
 
 abbrev pub rule_word : Rule → List ℕ
 rule_word Forward = codes "forward"
+rule_word SuperOrder = codes "super-order"
 rule_word Kind = codes "kind"
 
 -- `InvalidModule: group 0 member 1: forward`
@@ -98,6 +99,11 @@ live_line groups = codes "live " ++ decimal (length groups) ++ flat_map group_te
 abbrev pub refused_line : Refusal → List ℕ
 refused_line refusal = codes "refused " ++ refusal_text refusal ++ line_feed
 
+-- whether what was asked is so
+abbrev pub answer_word : Bool → List ℕ
+answer_word true = codes "yes"
+answer_word false = codes "no"
+
 -- the line of a reply
 abbrev pub line_of : Reply → List ℕ
 line_of (TypeMade handle index) = codes "type " ++ decimal handle ++ codes " index " ++ decimal index ++ line_feed
@@ -108,6 +114,7 @@ line_of Dropped = word_line (codes "dropped")
 line_of (SweptReply swept) = swept_line swept
 line_of Released = word_line (codes "released")
 line_of (Index index) = codes "index " ++ decimal index ++ line_feed
+line_of (Answer is_so) = word_line (answer_word is_so)
 line_of (Live groups) = live_line groups
 line_of (Refused refusal) = refused_line refusal
 

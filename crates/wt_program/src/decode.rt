@@ -6,7 +6,7 @@ ghost use Rattle.serde_json.specs.Read.{read};
 ghost use Rattle.serde_json.specs.View.{view, items_view};
 ghost use Rattle.wt_env.specs.Json.{each_of};
 ghost use Rattle.wt_env.specs.Limits.{AreValid};
-ghost use Rattle.wt_program.specs.Decode.{own_key_count, decode_u32_at, decode_by, by_and_number, type_from, host_val, decode_val, decode_vals, func_from, decode_func, decode_sub, decode_live, decode_type, module_from, decode_module, decode_clone, decode_root, decode_drop, decode_sweep, decode_release, type_of_handle, type_of_module, decode_named_type, trampoline_from, decode_trampoline, decode_command, decode_commands, decode_list, decode};
+ghost use Rattle.wt_program.specs.Decode.{own_key_count, decode_u32_at, decode_by, by_and_number, type_from, host_val, decode_val, decode_vals, func_from, decode_func, decode_sub, decode_live, decode_type, module_from, decode_module, decode_clone, decode_root, decode_drop, decode_sweep, decode_release, type_of_handle, type_of_module, decode_named_type, trampoline_from, decode_trampoline, named_type_at, subtype_from, decode_subtype, decode_command, decode_commands, decode_list, decode};
 ghost use Rattle.wt_program.specs.declared.decode.DecodeError.{DecodeError};
 ghost use Rattle.wt_session.specs.World.{AreCommands};
 
@@ -163,6 +163,7 @@ fn decode_command(alloc: Global, value: &Value) -> Result<Option<Command>, OutOf
         Some("sweep") => Ok(decode_sweep(value)),
         Some("release") => Ok(decode_release(value)),
         Some("trampoline") => Ok(decode_trampoline(value)),
+        Some("subtype") => Ok(decode_subtype(value)),
         _ => Ok(None),
     }
 }
@@ -275,6 +276,33 @@ fn trampoline_from(by: u32, value: &Value) -> Option<Command>
 {
     let ty = value.get("type").and_then(decode_named_type)?;
     Some(Command::Trampoline { by, ty })
+}
+
+/// `{"do": "subtype", "sub": a type that is named, "sup": another}`.
+fn decode_subtype(value: &Value) -> Option<Command>
+    ensures { result ≡ decode_subtype (view value.now) }
+{
+    if own_key_count(value) != 3 {
+        return None;
+    }
+    let by = decode_by(value)?;
+    subtype_from(by, value)
+}
+
+/// The command by this party.
+fn subtype_from(by: u32, value: &Value) -> Option<Command>
+    ensures { result ≡ subtype_from by (view value.now) }
+{
+    let sub = named_type_at(value, "sub")?;
+    let sup = named_type_at(value, "sup")?;
+    Some(Command::Subtype { by, sub, sup })
+}
+
+/// The type that is named under a key.
+fn named_type_at(value: &Value, key: &str) -> Option<NamedType>
+    ensures { result ≡ named_type_at key.now (view value.now) }
+{
+    value.get(key).and_then(decode_named_type)
 }
 
 /// A type that is named by a handle.
@@ -519,6 +547,14 @@ mod tests {
                     },
                 },
             ),
+            (
+                r#"[{"sup":{"handle":2,"type":1},"sub":{"handle":3},"by":1,"do":"subtype"}]"#,
+                Command::Subtype {
+                    by: 1,
+                    sub: NamedType::Handle(3),
+                    sup: NamedType::OfModule { handle: 2, ty: 1 },
+                },
+            ),
         ];
         for (text, want) in rows {
             let value = Value::from_str(alloc, text)?;
@@ -554,6 +590,11 @@ mod tests {
             r#"[{"do":"trampoline","type":{"handle":0,"x":0}}]"#,
             r#"[{"do":"trampoline","type":{"handle":0,"type":0,"x":0}}]"#,
             r#"[{"do":"trampoline","type":{"handle":0},"x":0}]"#,
+            r#"[{"do":"subtype","sub":{"handle":0}}]"#,
+            r#"[{"do":"subtype","sup":{"handle":0}}]"#,
+            r#"[{"do":"subtype","sub":{"handle":0},"sup":0}]"#,
+            r#"[{"do":"subtype","sub":{"handle":0},"sup":{"type":0}}]"#,
+            r#"[{"do":"subtype","sub":{"handle":0},"sup":{"handle":0},"x":0}]"#,
         ];
         for text in rows {
             let value = Value::from_str(alloc, text)?;

@@ -12,14 +12,7 @@ use wt_env::json::{key_count, only_at};
 use wt_env::limits::{Engine, EngineLimits};
 
 /// The greatest value of each limit.
-const GREATEST: EngineLimits = EngineLimits {
-    parties: 1024,
-    groups: 1 << 24,
-    types: 1 << 28,
-    references: 1 << 30,
-    ever: 1 << 24,
-    holds: 1 << 30,
-};
+const GREATEST: EngineLimits = EngineLimits::GREATEST;
 
 /// The limits that stand where none are named.
 const USUAL: EngineLimits = EngineLimits::USUAL;

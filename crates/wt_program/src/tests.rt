@@ -324,6 +324,54 @@ fn answers_on_trampolines(rt: HostRuntime) -> Result<(), Fail> {
     Ok(())
 }
 
+/// Two members of a group that declare no supertype match themselves alone.
+const NO_SUPERTYPE: (&str, &str) = (
+    r#"[
+        {"do":"module","groups":[[{"func":[[],[]]},{"func":[[],[]]}]]},
+        {"do":"subtype","sub":{"handle":0,"type":0},"sup":{"handle":0,"type":1}},
+        {"do":"subtype","sub":{"handle":0,"type":1},"sup":{"handle":0,"type":0}},
+        {"do":"live"}
+    ]"#,
+    "module 0 indices 0 1\nno\nno\nlive 1 #1[0 1]\n",
+);
+
+/// A type is under itself, of any kind, and however it is named.
+const UNDER_ITSELF: (&str, &str) = (
+    r#"[
+        {"do":"module","groups":[[{"struct":[]},{"array":"i8"}]]},
+        {"do":"root","index":1},
+        {"do":"subtype","sub":{"handle":0,"type":0},"sup":{"handle":0,"type":0}},
+        {"do":"subtype","sub":{"handle":0,"type":1},"sup":{"handle":1}},
+        {"do":"subtype","sub":{"handle":1},"sup":{"handle":0,"type":0}}
+    ]"#,
+    "module 0 indices 0 1\ntype 1 index 1\nyes\nyes\nno\n",
+);
+
+/// Both types are ones that the party has, and the first that isn't there is refused.
+const NO_TYPES_TO_COMPARE: (&str, &str) = (
+    r#"[
+        {"do":"subtype","sub":{"handle":0},"sup":{"handle":1}},
+        {"do":"type","sub":{"func":[[],[]]}},
+        {"do":"subtype","sub":{"handle":1,"type":2},"sup":{"handle":2}},
+        {"do":"subtype","sub":{"handle":0},"sup":{"handle":2}},
+        {"do":"subtype","sub":{"handle":0},"sup":{"handle":0,"type":0}},
+        {"do":"subtype","by":1,"sub":{"handle":0},"sup":{"handle":0}},
+        {"do":"subtype","by":16,"sub":{"handle":0},"sup":{"handle":0}}
+    ]"#,
+    "refused NoSuchHandle: party 0 has no type 0\ntype 0 index 0\nrefused NoSuchHandle: party 0 has no type 1.2\nrefused NoSuchHandle: party 0 has no type 2\nrefused NoSuchHandle: party 0 has no type 0.0\nrefused NoSuchHandle: party 1 has no type 0\nrefused Full: parties 16, wanted 17\n",
+);
+
+#[test]
+fn answers_on_supertypes(rt: HostRuntime) -> Result<(), Fail> {
+    let rows = [NO_SUPERTYPE, UNDER_ITSELF, NO_TYPES_TO_COMPARE];
+    for (input, output) in rows {
+        let (answered, written) = outcome(rt.alloc(), "run", input, &[], &[])?;
+        assert_eq!(rt; answered, Status::Done, "on {input}");
+        assert_eq!(rt; written.as_slice(), output.as_bytes(), "on {input}");
+    }
+    Ok(())
+}
+
 #[test]
 fn answers_on_modules(rt: HostRuntime) -> Result<(), Fail> {
     let rows = [

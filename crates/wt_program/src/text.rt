@@ -2,7 +2,7 @@
 
 ghost use Rattle.std.specs.Prelude.{◌≡◌, ◌++◌, IfOk, OnOk, string_bytes};
 ghost use Rattle.std.specs.List.{flat_map};
-ghost use Rattle.wt_program.specs.Text.{limit_word, indices_text, group_text, word_line, swept_line, live_line, full_text, kind_word, no_such_handle_text, no_such_type_text, rule_word, invalid_module_text, later_index_text, module_line, refusal_text, refused_line, line_of, text_of};
+ghost use Rattle.wt_program.specs.Text.{limit_word, answer_word, indices_text, group_text, word_line, swept_line, live_line, full_text, kind_word, no_such_handle_text, no_such_type_text, rule_word, invalid_module_text, later_index_text, module_line, refusal_text, refused_line, line_of, text_of};
 
 use std::alloc::Global;
 use wt_env::limits::Limit;
@@ -47,6 +47,12 @@ fn push_word(text: &mut String, word: &str) -> Result<(), OutOfMemory>
     text.push_str(word)?;
     text.push_str("\n")?;
     Ok(())
+}
+
+fn answer_word(is_so: bool) -> &'static str
+    ensures { result.now ≡ answer_word is_so }
+{
+    if is_so { "yes" } else { "no" }
 }
 
 fn push_swept(text: &mut String, swept: Swept) -> Result<(), OutOfMemory>
@@ -106,6 +112,7 @@ fn rule_word(rule: Rule) -> &'static str
 {
     match rule {
         Rule::Forward => "forward",
+        Rule::SuperOrder => "super-order",
         Rule::Kind => "kind",
     }
 }
@@ -218,6 +225,7 @@ fn push_line(text: &mut String, reply: &Reply) -> Result<(), OutOfMemory>
         Reply::Swept(swept) => push_swept(text, *swept),
         Reply::Released => push_word(text, "released"),
         Reply::Index(index) => push_index(text, *index),
+        Reply::Answer(is_so) => push_word(text, answer_word(*is_so)),
         Reply::Live(groups) => push_live(text, groups.as_slice()),
         Reply::Refused(refusal) => push_refused(text, refusal),
     }
@@ -282,6 +290,8 @@ mod tests {
             (Reply::Swept(Swept::Removed(12)), "removed 12\n"),
             (Reply::Swept(Swept::Kept), "kept\n"),
             (Reply::Swept(Swept::Gone), "gone\n"),
+            (Reply::Answer(true), "yes\n"),
+            (Reply::Answer(false), "no\n"),
             (
                 Reply::Refused(Refusal::NoSuchHandle {
                     party: 2,
@@ -300,6 +310,34 @@ mod tests {
             ),
         ];
         for (reply, want) in rows {
+            let lines = text(rt.alloc(), &[reply])?;
+            assert_eq!(rt; lines.as_str(), want);
+        }
+        Ok(())
+    }
+
+    #[test]
+    fn writes_which_rule_is_broken(rt: HostRuntime) -> Result<(), Fail> {
+        let rows = [
+            (
+                Rule::Forward,
+                "refused InvalidModule: group 1 member 2: forward\n",
+            ),
+            (
+                Rule::SuperOrder,
+                "refused InvalidModule: group 1 member 2: super-order\n",
+            ),
+            (
+                Rule::Kind,
+                "refused InvalidModule: group 1 member 2: kind\n",
+            ),
+        ];
+        for (rule, want) in rows {
+            let place = Place::Member {
+                group: 1,
+                member: 2,
+            };
+            let reply = Reply::Refused(Refusal::InvalidModule { place, rule });
             let lines = text(rt.alloc(), &[reply])?;
             assert_eq!(rt; lines.as_str(), want);
         }

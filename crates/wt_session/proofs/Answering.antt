@@ -1,32 +1,36 @@
 -- A refused command changes nothing, and each command of a run is answered.
-use Rattle.std.proofs.Common.{◌≡◌, ◌≤◌, ℕ, nat_lt, zero, suc, ◌+◌, ◌<◌, ◌⊎◌, inl, inr, true, false, List, [], ◌∷◌, ◌++◌, length, map, take, get_or, slice_get, slice_set, Option, Some, None, option_and_then, Result, Ok, Err, IfOk, refl, sym, ap, subst, ◌∙◌, arith}
+use Rattle.std.proofs.Common.{◌≡◌, ◌≤◌, ℕ, nat_lt, zero, suc, ◌+◌, ◌<◌, ◌⊎◌, inl, inr, true, false, List, [], ◌∷◌, ◌++◌, length, map, take, get_or, slice_get, slice_set, Option, Some, None, option_map, option_and_then, IsSome, Result, Ok, Err, IfOk, refl, sym, ap, subst, ◌∙◌, arith}
 use Rattle.std.proofs.lemmas.Bool.{false≢true}
 use Rattle.wt_env.specs.declared.types.VMSharedTypeIndex.{VMSharedTypeIndex}
 use Rattle.wt_env.specs.declared.limits.Limit.TheVariants.{Parties}
 use Rattle.wt_env.specs.declared.memory.OutOfMemory.{OutOfMemory}
 use Rattle.wt_tree.specs.Tree.{ClosedTree}
+use Rattle.wt_tree.specs.Subtyping.{TellsSteps}
 use Rattle.wt_model.specs.declared.refusal.Full.{Full}
 use Rattle.wt_model.specs.declared.refusal.BuildRefusal.{BuildRefusal}
 use Rattle.wt_registry.specs.Registered.{RegisteredGroup, Registry}
 use Rattle.wt_registry.specs.Holds.{Hold, root, hold as held}
-use Rattle.wt_registry.specs.Indices.{closed_tree}
+use Rattle.wt_registry.specs.Indices.{locate, closed_tree}
 use Rattle.wt_registry.specs.Holds.{Collection}
 use Rattle.wt_registry.specs.Registration.{register, register_groups}
 use Rattle.wt_registry.specs.Removal.{drop_hold}
 use Rattle.wt_registry.specs.Sound.{OneIndexPerTree}
+use Rattle.wt_model.specs.Trees.{trees}
 use Rattle.wt_model.specs.Trampolines.{trampoline_index}
+use Rattle.wt_model.specs.Subtyping.{is_subtype_index}
 use Rattle.wt_session.specs.declared.command.NamedType.{NamedType}
 use Rattle.wt_session.specs.declared.command.Command.{Command}
 use Rattle.wt_session.specs.declared.command.Command.TheVariants as command
 use Rattle.wt_session.specs.declared.counts.ObjectCounts.{ObjectCounts}
 use Rattle.wt_session.specs.declared.handle.Handle.{Handle}
+use Rattle.wt_session.specs.declared.reply.Refusal.{Refusal}
 use Rattle.wt_session.specs.declared.reply.Refusal.TheVariants as refusal
 use Rattle.wt_session.specs.declared.reply.Reply.{Reply}
 use Rattle.wt_session.specs.declared.reply.Reply.TheVariants as reply
-use Rattle.wt_session.specs.World.{World, party_of, row_of, type_at, debt_at, module_at, index_named, HasExactlyReached}
-use Rattle.wt_session.specs.Run.{PartyOutcome, type_made, held_again, clone_made, root_made, hold_ended, type_dropped, debt_swept, module_made, module_released, trampoline_told, full_of_parties, party_outcome, counts_after, done_by, sub_type_of, world_after}
+use Rattle.wt_session.specs.World.{World, party_of, row_of, type_at, debt_at, module_at, index_named, HasExactlyReached, HoldsNamedTypes}
+use Rattle.wt_session.specs.Run.{PartyOutcome, type_made, held_again, clone_made, root_made, hold_ended, type_dropped, debt_swept, module_made, module_released, trampoline_told, subtype_told, full_of_parties, party_outcome, counts_after, done_by, sub_type_of, world_after}
 use Rattle.wt_session.proofs.BuildChecks.{not_below, step-checked}
-use Rattle.wt_session.specs.Answered.{check_of, trees_asked, index_of, is_refusal, TellsCheck, NamesTrees, IsAnswered, AreAnswered}
+use Rattle.wt_session.specs.Answered.{check_of, trees_asked, index_of, is_refusal, TellsCheck, NamesTrees, TellsTest, IsAnswered, AreAnswered}
 
 -- ---- a refusal tells no trees
 
@@ -83,6 +87,11 @@ trampoline_told-unchanged : (registry : Registry) (row : List Handle) (party : �
 trampoline_told-unchanged registry row party ty (Some index) = accepted
 trampoline_told-unchanged registry row party ty None = λ refuses. (refl, refl)
 
+subtype_told-unchanged : (registry : Registry) (row : List Handle) (party : ℕ) (sub sup : NamedType) (lower upper : Option VMSharedTypeIndex) → IsUnchanged registry row (subtype_told registry row party sub sup lower upper)
+subtype_told-unchanged registry row party sub sup None upper = λ refuses. (refl, refl)
+subtype_told-unchanged registry row party sub sup (Some i) None = λ refuses. (refl, refl)
+subtype_told-unchanged registry row party sub sup (Some i) (Some j) = accepted
+
 outcome-unchanged : (registry : Registry) (row : List Handle) (command : Command) → IsUnchanged registry row (party_outcome registry row command)
 outcome-unchanged registry row (command.HostType by sub) = type_made-unchanged registry row (register registry by (sub_type_of sub))
 outcome-unchanged registry row (command.Module by types) = module_made-unchanged registry row (register_groups registry by types.groups)
@@ -92,6 +101,7 @@ outcome-unchanged registry row (command.Drop by place) = type_dropped-unchanged 
 outcome-unchanged registry row (command.Sweep by place) = debt_swept-unchanged registry row by place (debt_at row place)
 outcome-unchanged registry row (command.Release by place) = module_released-unchanged registry row by place (module_at row place)
 outcome-unchanged registry row (command.Trampoline by ty) = trampoline_told-unchanged registry row by ty (option_and_then (trampoline_index registry.made) (index_named row ty))
+outcome-unchanged registry row (command.Subtype by sub sup) = subtype_told-unchanged registry row by sub sup (index_named row sub) (index_named row sup)
 outcome-unchanged registry row (command.Live by) = accepted
 
 counts-unchanged : (told : Reply) (counts : ObjectCounts) → is_refusal told ≡ true → counts_after told counts ≡ counts
@@ -112,6 +122,52 @@ done-unchanged world command refuses =
     let counts = counts-unchanged outcome.reply world.counts refuses in
     λ i. record { registry = same.0 i; handles = rows i; counts = counts i }
 
+-- ---- an answer to a subtype test tells the steps between the types that are named
+
+-- the test by indices tells the steps
+abbrev pub TestTells : List RegisteredGroup → Type 0
+TestTells made = (i j : VMSharedTypeIndex) → TellsSteps (closed_tree made) i j (is_subtype_index made i j)
+
+-- what has one image has any
+mapped : {A B C : Type 0} (f : A → B) (g : A → C) (o : Option A) (b : B) → option_map f o ≡ Some b → IsSome (option_map g o)
+mapped f g (Some a) b is = refl
+mapped f g None b is = absurd (cc)
+
+-- what the party names has a closed tree
+named-closed : (world : World) (party : ℕ) (ty : NamedType) (i : VMSharedTypeIndex) → HoldsNamedTypes world → index_named (row_of party world.handles) ty ≡ Some i → IsSome (closed_tree world.registry.made i)
+named-closed world party ty i holds is =
+    let held = holds party ty i is in
+    mapped (λ (at : ℕ × ℕ). at.0) (λ (at : ℕ × ℕ). record { tree = trees world.registry.made at.0; place = at.1 }) (locate world.registry.made i) held.0 held.2
+
+-- a refusal tells no steps
+refusal-tests : (made : List RegisteredGroup) (row : List Handle) (command : Command) (why : Refusal) → TellsTest made row command (reply.Refused why)
+refusal-tests made row (command.Subtype by sub sup) why = tt
+refusal-tests made row other why = tt
+
+-- what is told of two names, each of which may name nothing
+told-tests : (world : World) (by : ℕ) (sub sup : NamedType) (lower upper : Option VMSharedTypeIndex) → TestTells world.registry.made → HoldsNamedTypes world
+    → index_named (row_of by world.handles) sub ≡ lower → index_named (row_of by world.handles) sup ≡ upper
+    → TellsTest world.registry.made (row_of by world.handles) (command.Subtype by sub sup) (subtype_told world.registry (row_of by world.handles) by sub sup lower upper).reply
+told-tests world by sub sup None upper tells holds first second = tt
+told-tests world by sub sup (Some i) None tells holds first second = tt
+told-tests world by sub sup (Some i) (Some j) tells holds first second = record {
+  lower = i;
+  upper = j;
+  names_lower = first;
+  names_upper = second;
+  has_lower = named-closed world by sub i holds first;
+  has_upper = named-closed world by sup j holds second;
+  steps = tells i j;
+}
+
+-- the outcome of any command, which has steps to tell only of a subtype test
+outcome-tests : (world : World) (command : Command) → TestTells world.registry.made → HoldsNamedTypes world
+    → TellsTest world.registry.made (row_of (party_of command) world.handles) command (party_outcome world.registry (row_of (party_of command) world.handles) command).reply
+outcome-tests world (command.Subtype by sub sup) tells holds =
+    let row = row_of by world.handles in
+    told-tests world by sub sup (index_named row sub) (index_named row sup) tells holds refl refl
+outcome-tests world other tells holds = tt
+
 -- ---- one command is answered
 
 pub refused-answered : (world : World) (command : Command) (party bound : ℕ) → party ≡ party_of command → bound ≡ world.registry.engine.limits.parties → bound ≤ party → OneIndexPerTree world.registry.made → HasExactlyReached world
@@ -122,6 +178,7 @@ refused-answered world command party bound by is past one reached =
     subst (λ (f : Full). IsAnswered world command (reply.Refused (refusal.Full f)) world) full (record {
       accepted = λ asked has. step-checked world command asked false (not_below (party_of command) world.registry.engine.limits.parties (omega (arith, by, is, past))) has;
       named = refusal-names world.registry.made (reply.Refused (refusal.Full told)) (trees_asked world.registry command) refl;
+      subtypes = refusal-tests world.registry.made (row_of (party_of command) world.handles) command (refusal.Full told);
       unchanged = λ again. refl;
       one_index = one;
       reached = reached;
@@ -129,17 +186,20 @@ refused-answered world command party bound by is past one reached =
 
 pub done-answered : (before after : World) (command : Command) (result : Result Reply OutOfMemory) → nat_lt (party_of command) before.registry.engine.limits.parties ≡ true
     → IfOk result (λ told. NamesTrees after.registry.made told (trees_asked before.registry command))
-    → IfOk result (λ told. done_by before command ≡ (told, after)) → OneIndexPerTree after.registry.made → HasExactlyReached after → IfOk result (λ told. IsAnswered before command told after)
-done-answered before after command (Ok told) below named done one reached = record {
+    → IfOk result (λ told. done_by before command ≡ (told, after)) → TestTells before.registry.made → HoldsNamedTypes before → OneIndexPerTree after.registry.made → HasExactlyReached after → IfOk result (λ told. IsAnswered before command told after)
+done-answered before after command (Ok told) below named done tells holds one reached = record {
   accepted = λ asked is. subst (λ (p : Reply × World). TellsCheck p.0 (check_of before asked)) done (step-checked before command asked true below is);
   named = named;
+  subtypes =
+      let row = row_of (party_of command) before.handles in
+      subst (λ (p : Reply × World). TellsTest before.registry.made row command p.0) done (outcome-tests before command tells holds);
   unchanged = λ refuses.
       sym (ap (λ (p : Reply × World). p.1) done)
       ∙ done-unchanged before command (ap (λ (p : Reply × World). is_refusal p.0) done ∙ refuses);
   one_index = one;
   reached = reached;
 }
-done-answered before after command (Err none) below named done one reached = tt
+done-answered before after command (Err none) below named done tells holds one reached = tt
 
 -- ---- the indices of a module
 

@@ -125,4 +125,5 @@ step-checked world (command.Drop by place) asked below is has = absurd (none_ask
 step-checked world (command.Sweep by place) asked below is has = absurd (none_asked asked has)
 step-checked world (command.Release by place) asked below is has = absurd (none_asked asked has)
 step-checked world (command.Trampoline by ty) asked below is has = absurd (none_asked asked has)
+step-checked world (command.Subtype by sub sup) asked below is has = absurd (none_asked asked has)
 step-checked world (command.Live by) asked below is has = absurd (none_asked asked has)

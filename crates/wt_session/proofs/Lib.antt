@@ -1,7 +1,6 @@
 pub mod Answering
 pub mod BuildChecks
 pub mod Counted
-pub mod Functions
 pub mod HandlesKept
 pub mod HostTypes
 pub mod MappedTypes

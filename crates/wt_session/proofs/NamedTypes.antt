@@ -1,11 +1,11 @@
 -- Each index that a party names by a handle is that of a registered group, which the party holds.
-use Rattle.std.proofs.Common.{◌≡◌, ℕ, inl, List, slice_get, Option, Some, None, option_map, refl, sym, subst}
+use Rattle.std.proofs.Common.{◌≡◌, ℕ, inl, IsSome, List, slice_get, Option, Some, None, option_map, refl, sym, subst}
 use Rattle.std.proofs.lemmas.Option.{option_and_then_some}
 use Rattle.wt_env.specs.Among.{Among}
 use Rattle.wt_env.specs.declared.types.VMSharedTypeIndex.{VMSharedTypeIndex}
 use Rattle.wt_env.proofs.lists.Members.{some_same, get_among}
 use Rattle.wt_registry.specs.Registered.{Registry}
-use Rattle.wt_registry.specs.Indices.{number_of}
+use Rattle.wt_registry.specs.Indices.{locate, number_of}
 use Rattle.wt_registry.specs.Holds.{Hold, Collection}
 use Rattle.wt_session.specs.declared.command.NamedType.{NamedType}
 use Rattle.wt_session.specs.declared.command.NamedType.TheVariants as named
@@ -44,6 +44,16 @@ by-module registry party row place ty i are is = option_and_then_some (λ (types
 named-in_row : (registry : Registry) (party : ℕ) (row : List Handle) (ty : NamedType) (i : VMSharedTypeIndex) → AreHandles registry party row → index_named row ty ≡ Some i → IsHeldIn registry i row
 named-in_row registry party row (named.Handle place) i are is = by-handle registry party row place i are is
 named-in_row registry party row (named.OfModule place ty) i are is = by-module registry party row place ty i are is
+
+-- an index that a party names is that of a registered type
+pub named-located : (registry : Registry) (party : ℕ) (row : List Handle) (ty : NamedType) (i : VMSharedTypeIndex) → AreHandles registry party row → index_named row ty ≡ Some i → IsSome (locate registry.made i)
+named-located registry party row ty i are is =
+    let held = named-in_row registry party row ty i are is in
+    by held.0 (locate registry.made i) held.2
+  where
+    by : (number : ℕ) (at : Option (ℕ × ℕ)) → option_map (λ at. at.0) at ≡ Some number → IsSome at
+    by number (Some at) told = refl
+    by number None told = absurd (cc)
 
 pub named-held : (registry : Registry) (counts : ObjectCounts) (rows : List (List Handle)) → IsKept registry rows → HoldsNamedTypes (world_of registry counts rows)
 named-held registry counts rows kept party ty i is =

@@ -1,8 +1,9 @@
--- What a session answers to a registration, by the build checks and in the words of closed trees, and what a
--- refusal leaves.
-use Rattle.std.specs.Prelude.{◌≡◌, ℕ, ◌+◌, List, [], ◌∷◌, map, take, slice_get, Bool, true, false, Option, Some, None, option_map, is_some}
+-- What a session answers to a registration, by the build checks and in the words of closed trees, what it answers to a
+-- subtype test, and what a refusal leaves.
+use Rattle.std.specs.Prelude.{◌≡◌, ℕ, ◌+◌, List, [], ◌∷◌, map, take, slice_get, Bool, true, false, Option, Some, None, option_map, is_some, IsSome}
 use Rattle.wt_env.specs.declared.types.VMSharedTypeIndex.{VMSharedTypeIndex}
 use Rattle.wt_tree.specs.Tree.{ClosedTree}
+use Rattle.wt_tree.specs.Subtyping.{TellsSteps}
 use Rattle.wt_model.specs.declared.handle_kind.HandleKind.{HandleKind}
 use Rattle.wt_model.specs.declared.handle_kind.HandleKind.TheVariants as kind
 use Rattle.wt_model.specs.declared.refusal.BuildRefusal.TheVariants as why
@@ -10,6 +11,7 @@ use Rattle.wt_registry.specs.Registered.{RegisteredGroup, Registry}
 use Rattle.wt_registry.specs.Indices.{closed_tree}
 use Rattle.wt_registry.specs.Registration.{trees_of, host_type, module_groups, RegistrationCommand, Cause, no_such_handle, refused, build_check}
 use Rattle.wt_registry.specs.Sound.{OneIndexPerTree}
+use Rattle.wt_session.specs.declared.command.NamedType.{NamedType}
 use Rattle.wt_session.specs.declared.command.Command.{Command}
 use Rattle.wt_session.specs.declared.command.Command.TheVariants as command
 use Rattle.wt_session.specs.declared.handle.Handle.{Handle}
@@ -17,7 +19,7 @@ use Rattle.wt_session.specs.declared.reply.Refusal.{Refusal}
 use Rattle.wt_session.specs.declared.reply.Refusal.TheVariants as refusal
 use Rattle.wt_session.specs.declared.reply.Reply.{Reply}
 use Rattle.wt_session.specs.declared.reply.Reply.TheVariants as reply
-use Rattle.wt_session.specs.World.{World, row_of, type_at, debt_at, module_at, HasExactlyReached}
+use Rattle.wt_session.specs.World.{World, party_of, row_of, type_at, debt_at, module_at, index_named, HasExactlyReached}
 use Rattle.wt_session.specs.Run.{sub_type_of, world_after}
 
 -- ---- registrations
@@ -79,6 +81,22 @@ abbrev pub TellsCheck : Reply → Option Cause → Type 0
 TellsCheck told None = is_refusal told ≡ false
 TellsCheck told (Some cause) = (tells : Refusal) × (refusal_told cause ≡ Some tells) × (told ≡ reply.Refused tells)
 
+-- The party with these handles names two registered types, and the answer tells whether zero or more declared
+-- supertype steps lead from the closed tree of the first to that of the second.
+pub record TellsStepsNamed (made : List RegisteredGroup) (row : List Handle) (sub sup : NamedType) (told : Bool) : Type 0 where
+  pub lower : VMSharedTypeIndex
+  pub upper : VMSharedTypeIndex
+  pub names_lower : index_named row sub ≡ Some lower
+  pub names_upper : index_named row sup ≡ Some upper
+  pub has_lower : IsSome (closed_tree made lower)
+  pub has_upper : IsSome (closed_tree made upper)
+  pub steps : TellsSteps (closed_tree made) lower upper told
+
+-- an answer to a subtype test tells the steps between the types that it names
+abbrev pub TellsTest : List RegisteredGroup → List Handle → Command → Reply → Type 0
+TellsTest made row (command.Subtype by sub sup) (reply.Answer told) = TellsStepsNamed made row sub sup told
+TellsTest made row asks other = Unit {0}
+
 -- ---- one command with its reply, and the sessions before and after it
 
 -- A registration is accepted exactly where its build checks give no cause, and else refused with that cause.
@@ -88,6 +106,10 @@ IsAcceptedAsChecked before asks told after = (asked : RegistrationCommand) → r
 -- An accepted registration is answered with indices whose closed trees are the command's.
 abbrev pub NamesTreesAsked : World → Command → Reply → World → Type 0
 NamesTreesAsked before asks told after = NamesTrees after.registry.made told (trees_asked before.registry asks)
+
+-- An answer to a subtype test tells whether declared steps lead from the first type that is named to the second.
+abbrev pub TellsSubtypes : World → Command → Reply → World → Type 0
+TellsSubtypes before asks told after = TellsTest before.registry.made (row_of (party_of asks) before.handles) asks told
 
 -- A refused command, of any kind, leaves all as before.
 abbrev pub LeavesAllIfRefused : World → Command → Reply → World → Type 0
@@ -105,6 +127,7 @@ IsExactlyReached before asks told after = HasExactlyReached after
 pub record IsAnswered (before : World) (asks : Command) (told : Reply) (after : World) : Type 0 where
   pub accepted : IsAcceptedAsChecked before asks told after
   pub named : NamesTreesAsked before asks told after
+  pub subtypes : TellsSubtypes before asks told after
   pub unchanged : LeavesAllIfRefused before asks told after
   pub one_index : HasOneIndexPerTree before asks told after
   pub reached : IsExactlyReached before asks told after

@@ -17,6 +17,7 @@ use Rattle.wt_registry.specs.Registration.{register, register_groups}
 use Rattle.wt_registry.specs.Removal.{drop_hold as dropped, sweep_debt as swept, release_holds}
 use Rattle.wt_registry.specs.Live.{live_of}
 use Rattle.wt_model.specs.Trampolines.{trampoline_index}
+use Rattle.wt_model.specs.Subtyping.{is_subtype_index}
 use Rattle.wt_session.specs.declared.command.HostVal.{HostVal}
 use Rattle.wt_session.specs.declared.command.HostVal.TheVariants as host
 use Rattle.wt_session.specs.declared.command.HostSub.{HostSub}
@@ -139,6 +140,13 @@ abbrev pub trampoline_told : Registry → List Handle → ℕ → NamedType → 
 trampoline_told registry row party ty (Some index) = record { reply = reply.Index index.0; registry = registry; row = row }
 trampoline_told registry row party ty None = refused registry row (no_such_type party ty)
 
+-- whether declared supertype steps lead from the first type that is named to the second; the first of them that is
+-- not there is refused
+abbrev pub subtype_told : Registry → List Handle → ℕ → NamedType → NamedType → Option VMSharedTypeIndex → Option VMSharedTypeIndex → PartyOutcome
+subtype_told registry row party sub sup None upper = refused registry row (no_such_type party sub)
+subtype_told registry row party sub sup (Some i) None = refused registry row (no_such_type party sup)
+subtype_told registry row party sub sup (Some i) (Some j) = record { reply = reply.Answer (is_subtype_index registry.made i j); registry = registry; row = row }
+
 -- The same for a party below the limit that has these handles.
 abbrev pub party_outcome : Registry → List Handle → Command → PartyOutcome
 party_outcome registry row (command.HostType by sub) = type_made registry row (register registry by (sub_type_of sub))
@@ -149,6 +157,7 @@ party_outcome registry row (command.Drop by place) = type_dropped registry row b
 party_outcome registry row (command.Sweep by place) = debt_swept registry row by place (debt_at row place)
 party_outcome registry row (command.Release by place) = module_released registry row by place (module_at row place)
 party_outcome registry row (command.Trampoline by ty) = trampoline_told registry row by ty (option_and_then (trampoline_index registry.made) (index_named row ty))
+party_outcome registry row (command.Subtype by sub sup) = subtype_told registry row by sub sup (index_named row sub) (index_named row sup)
 party_outcome registry row (command.Live by) = record { reply = reply.Live (live_of registry.made); registry = registry; row = row }
 
 -- ---- commands in turn

@@ -41,6 +41,7 @@ party_of (command.Drop by place) = by
 party_of (command.Sweep by place) = by
 party_of (command.Release by place) = by
 party_of (command.Trampoline by ty) = by
+party_of (command.Subtype by sub sup) = by
 party_of (command.Live by) = by
 
 -- the handle by which a type is named, with the kind that it has to be of
@@ -55,9 +56,10 @@ named_handles (command.Drop by place) = (kind.Type, place) ∷ []
 named_handles (command.Sweep by place) = (kind.Debt, place) ∷ []
 named_handles (command.Release by place) = (kind.Module, place) ∷ []
 named_handles (command.Trampoline by ty) = handle_naming ty ∷ []
+named_handles (command.Subtype by sub sup) = handle_naming sub ∷ handle_naming sup ∷ []
 named_handles other = []
 
--- a drop, a sweep, a release and a trampoline take no memory
+-- a drop, a sweep, a release, a trampoline and a subtype test take no memory
 abbrev pub takes_memory : Command → Bool
 takes_memory (command.HostType by sub) = true
 takes_memory (command.Module by types) = true
@@ -67,6 +69,7 @@ takes_memory (command.Drop by place) = false
 takes_memory (command.Sweep by place) = false
 takes_memory (command.Release by place) = false
 takes_memory (command.Trampoline by ty) = false
+takes_memory (command.Subtype by sub sup) = false
 takes_memory (command.Live by) = true
 
 -- commands alone that take no memory
@@ -153,6 +156,7 @@ IsCommand (command.Drop by place) = Unit {0}
 IsCommand (command.Sweep by place) = Unit {0}
 IsCommand (command.Release by place) = Unit {0}
 IsCommand (command.Trampoline by ty) = Unit {0}
+IsCommand (command.Subtype by sub sup) = Unit {0}
 IsCommand (command.Live by) = Unit {0}
 
 abbrev pub AreCommands : List Command → Type 0

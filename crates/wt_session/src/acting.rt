@@ -10,7 +10,7 @@ use crate::command::Command;
 use crate::counts::ObjectCounts;
 use crate::handle::Handle;
 use crate::module_handles::{register_module, release_module};
-use crate::named_types::{no_such_type, trampoline_of_type};
+use crate::named_types::{no_such_type, subtype_of_types, trampoline_of_type};
 use crate::party_handles::{PartyHandles, add_missing_parties};
 use crate::reply::{HandleKind, Refusal, Reply};
 use crate::type_handles::{
@@ -51,6 +51,9 @@ fn run_command(
         Command::Trampoline { by: _, ty } => {
             Ok(trampoline_of_type(registry, party, row.as_slice(), *ty))
         }
+        Command::Subtype { by: _, sub, sup } => {
+            Ok(subtype_of_types(registry, party, row.as_slice(), *sub, *sup))
+        }
         Command::Live { by: _ } => Ok(Reply::Live(registry.live()?)),
     }
 }
@@ -67,6 +70,7 @@ fn refusal_without_handles(command: &Command) -> Option<Refusal>
         Command::Sweep { by, handle } => Some(no_such_handle(*by, HandleKind::Debt, *handle)),
         Command::Release { by, handle } => Some(no_such_handle(*by, HandleKind::Module, *handle)),
         Command::Trampoline { by, ty } => Some(no_such_type(*by, *ty)),
+        Command::Subtype { by, sub, sup: _ } => Some(no_such_type(*by, *sub)),
         Command::HostType { by: _, sub: _ } => None,
         Command::Module { by: _, groups: _ } => None,
         Command::Root { by: _, index: _ } => None,
@@ -74,7 +78,8 @@ fn refusal_without_handles(command: &Command) -> Option<Refusal>
     }
 }
 
-/// One command of a party below the limit. A drop, a sweep, a release and a trampoline take no memory.
+/// One command of a party below the limit. A drop, a sweep, a release, a trampoline and a subtype test take no
+/// memory.
 pub(crate) fn run_command_of_party(
     alloc: Global,
     registry: &mut TypeRegistry,

@@ -40,24 +40,56 @@ pub enum NamedType {
 #[derive(Debug, PartialEq, Eq, Drop)]
 pub enum Command {
     /// Registers a type, and takes a handle on it.
-    HostType { by: u32, sub: HostSub },
+    HostType {
+        by: u32,
+        sub: HostSub,
+    },
     /// Registers the recursion groups of a module, and takes one handle on all of its types.
-    Module { by: u32, groups: ModuleTypes },
+    Module {
+        by: u32,
+        groups: ModuleTypes,
+    },
     /// Takes one more handle on the type of a handle.
-    Clone { by: u32, handle: u32 },
+    Clone {
+        by: u32,
+        handle: u32,
+    },
     /// Takes a handle on the type that has this index.
-    Root { by: u32, index: u32 },
+    Root {
+        by: u32,
+        index: u32,
+    },
     /// Drops a handle on a type.
-    Drop { by: u32, handle: u32 },
+    Drop {
+        by: u32,
+        handle: u32,
+    },
     /// Sweeps the group of a debt. The debt has the number of the handle that was dropped.
-    Sweep { by: u32, handle: u32 },
+    Sweep {
+        by: u32,
+        handle: u32,
+    },
     /// Releases a module.
-    Release { by: u32, handle: u32 },
+    Release {
+        by: u32,
+        handle: u32,
+    },
     /// Tells the index of the trampoline of a function type, by which callers that know nothing of its
     /// references enter it.
-    Trampoline { by: u32, ty: NamedType },
+    Trampoline {
+        by: u32,
+        ty: NamedType,
+    },
+    /// Tells whether zero or more declared supertype steps lead from one type to another.
+    Subtype {
+        by: u32,
+        sub: NamedType,
+        sup: NamedType,
+    },
     /// Tells which groups are registered.
-    Live { by: u32 },
+    Live {
+        by: u32,
+    },
 }
 
 impl Command {
@@ -77,6 +109,7 @@ impl Command {
             Command::Sweep { by, handle: _ } => *by,
             Command::Release { by, handle: _ } => *by,
             Command::Trampoline { by, ty: _ } => *by,
+            Command::Subtype { by, sub: _, sup: _ } => *by,
             Command::Live { by } => *by,
         }
     }

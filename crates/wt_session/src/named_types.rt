@@ -3,7 +3,8 @@
 ghost use Rattle.std.specs.Prelude.{◌≡◌, option_and_then};
 ghost use Rattle.wt_model.specs.Trampolines.{trampoline_index};
 ghost use Rattle.wt_session.specs.World.{index_named};
-ghost use Rattle.wt_session.specs.Run.{no_such_type, trampoline_told};
+ghost use Rattle.wt_session.specs.Run.{no_such_type, trampoline_told, subtype_told};
+ghost use Rattle.wt_session.specs.Session.{AreHandles};
 
 use crate::command::NamedType;
 use crate::handle::Handle;
@@ -44,7 +45,6 @@ fn index_of_type(row: &[Handle], ty: NamedType) -> Option<VMSharedTypeIndex>
 fn trampoline_of(registry: &TypeRegistry, index: VMSharedTypeIndex) -> Option<VMSharedTypeIndex>
     ensures { result ≡ trampoline_index registry.now.made index }
 {
-    registry.assure();
     if registry.is_function_index(index) {
         Some(registry.trampoline_type(index))
     } else {
@@ -81,4 +81,26 @@ pub(crate) fn trampoline_of_type(
         Some(index) => Reply::Index(index.bits()),
         None => Reply::Refused(no_such_type(party.number(), ty)),
     }
+}
+
+/// Tells whether zero or more declared supertype steps lead from one type that a party names to another (WebAssembly
+/// 3.0, "Matching"). It changes nothing, and takes no memory.
+pub(crate) fn subtype_of_types(
+    registry: &TypeRegistry,
+    party: &PartyNumber,
+    row: &[Handle],
+    sub: NamedType,
+    sup: NamedType,
+) -> Reply
+    requires handles { AreHandles registry.now party.now row.now }
+    ensures { subtype_told registry.now row.now party.now sub sup (index_named row.now sub) (index_named row.now sup)
+        ≡ record { reply = result; registry = registry.now; row = row.now } }
+{
+    let Some(lower) = index_of_type(row, sub) else {
+        return Reply::Refused(no_such_type(party.number(), sub));
+    };
+    let Some(upper) = index_of_type(row, sup) else {
+        return Reply::Refused(no_such_type(party.number(), sup));
+    };
+    Reply::Answer(registry.is_subtype(lower, upper))
 }

@@ -55,6 +55,8 @@ pub enum Reply {
     Released,
     /// The index of a type.
     Index(u32),
+    /// Whether what was asked is so.
+    Answer(bool),
     /// The registered groups, in order of their registration numbers.
     Live(Seq<LiveGroup>),
     /// The command was refused.

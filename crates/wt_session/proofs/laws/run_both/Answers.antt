@@ -1,6 +1,7 @@
 -- a run of the second list goes on where the run of the first ended
-use Rattle.std.proofs.Common.{◌≡◌, ℕ, zero, suc, ◌+◌, ◌⊎◌, Some, inl, inr, [], ◌∷◌, ◌++◌, List, length, slice_get, take, Result, Ok, Err, OnOk, OnErr, sym, ap, ◌∙◌, arith}
+use Rattle.std.proofs.Common.{◌≡◌, ℕ, zero, suc, ◌+◌, ◌⊎◌, Some, inl, inr, [], ◌∷◌, ◌++◌, List, length, slice_get, take, Result, Ok, Err, OnErr, sym, ap, ◌∙◌, arith}
 use Rattle.std.proofs.Math.Seq.{take-append-add}
+use Rattle.std.proofs.lemmas.Result.{on_ok_weaker, on_err_weaker}
 use Rattle.std.proofs.lemmas.List.{append_assoc, length-append, take-append-le}
 use Rattle.wt_session.specs.declared.command.Command.{Command}
 use Rattle.wt_session.specs.declared.reply.Reply.{Reply}
@@ -8,14 +9,6 @@ use Rattle.wt_session.specs.World.{World, TakesMemoryAt}
 use Rattle.wt_session.specs.Run.{replies_of, world_after}
 use Rattle.wt_session.proofs.Turns.{replies_of-both, world_after-both}
 use Rattle.wt_session.proofs.laws.run_both.Goals as goal
-
-on_ok_map : {A E P Q : Type 0} (result : Result A E) → (P → Q) → OnOk result P → OnOk result Q
-on_ok_map (Ok x) f h = f h
-on_ok_map (Err e) f h = h
-
-on_err_map : {A E P Q : Type 0} (result : Result A E) → (P → Q) → OnErr result P → OnErr result Q
-on_err_map (Ok x) f h = h
-on_err_map (Err e) f h = f h
 
 -- the replies and the session after both lists, from those after each
 joined_replies : (old mid : World) (before between after : List Reply) (first second : List Command) → between ≡ before ++ replies_of old first → mid ≡ world_after old first
@@ -74,19 +67,19 @@ returns-in_err-run_session-clause-err c =
 
 pub returns-clause-replies : goal.returns-clause-replies
 returns-clause-replies c =
-    on_ok_map c.run_session-2.result
+    on_ok_weaker c.run_session-2.result
     (joined_replies c.args.session.now c.run_session.new.session c.args.replies.now.items c.run_session.new.replies.items c.run_session-2.new.replies.items c.args.first.now c.args.second.now c.in_ok-run_session.ensures.replies c.in_ok-run_session.ensures.world)
     c.run_session-2.ensures.replies
 
 pub returns-clause-world : goal.returns-clause-world
 returns-clause-world c =
-    on_ok_map c.run_session-2.result
+    on_ok_weaker c.run_session-2.result
     (joined_world c.args.session.now c.run_session.new.session c.run_session-2.new.session c.args.first.now c.args.second.now c.in_ok-run_session.ensures.world)
     c.run_session-2.ensures.world
 
 pub returns-clause-err : goal.returns-clause-err
 returns-clause-err c =
-    on_err_map c.run_session-2.result
+    on_err_weaker c.run_session-2.result
     (λ ended.
     let first = c.args.first.now in
     let done = take ended.0 c.args.second.now in

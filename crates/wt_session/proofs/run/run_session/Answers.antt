@@ -91,6 +91,9 @@ returns-in_err-reply-clause-accepted c = λ n asks told wants got. (c.loop-comma
 pub returns-in_err-reply-clause-named : goal.returns-in_err-reply-clause-named
 returns-in_err-reply-clause-named c = λ n asks told wants got. (c.loop-command.invariant.answered n asks told wants got).named
 
+pub returns-in_err-reply-clause-subtypes : goal.returns-in_err-reply-clause-subtypes
+returns-in_err-reply-clause-subtypes c = λ n asks told wants got. (c.loop-command.invariant.answered n asks told wants got).subtypes
+
 pub returns-in_err-reply-clause-unchanged : goal.returns-in_err-reply-clause-unchanged
 returns-in_err-reply-clause-unchanged c = λ n asks told wants got. (c.loop-command.invariant.answered n asks told wants got).unchanged
 
@@ -105,6 +108,9 @@ returns-clause-accepted c = λ n asks told wants got. (c.loop-command.invariant.
 
 pub returns-clause-named : goal.returns-clause-named
 returns-clause-named c = λ n asks told wants got. (c.loop-command.invariant.answered n asks told wants got).named
+
+pub returns-clause-subtypes : goal.returns-clause-subtypes
+returns-clause-subtypes c = λ n asks told wants got. (c.loop-command.invariant.answered n asks told wants got).subtypes
 
 pub returns-clause-unchanged : goal.returns-clause-unchanged
 returns-clause-unchanged c = λ n asks told wants got. (c.loop-command.invariant.answered n asks told wants got).unchanged

@@ -1,8 +1,10 @@
 -- what is kept true of the fields, said of the session
-use Rattle.std.proofs.Common.{◌<◌, IfOk, ap, subst, ◌∙◌, arith}
+use Rattle.std.proofs.Common.{◌<◌, IfOk, refl, ap, subst, ◌∙◌, arith}
 use Rattle.std.proofs.lemmas.Bool.{lt-ltb}
 use Rattle.wt_env.specs.Limits.{EngineParts}
 use Rattle.wt_env.specs.declared.limits.EngineLimits.{EngineLimits}
+use Rattle.wt_model.specs.Subtyping.{is_subtype_index}
+use Rattle.wt_model.proofs.subtyping.TypeMaps.{sound-steps}
 use Rattle.wt_registry.specs.Sound.{OneIndexPerTree}
 use Rattle.wt_session.specs.Session.{rows_of, world_of}
 use Rattle.wt_session.specs.World.{World, party_of, HasExactlyReached, HoldsNamedTypes}
@@ -32,7 +34,8 @@ returns-clause-answered c =
     let below : party_of c.args.command.now < before.registry.engine.limits.parties = omega (arith, bound, c.by-party.ensures, c.if-party-bound.false) in
     subst (λ (world : World). IfOk result (λ told. IsAnswered world c.args.command.now told after)) c.self.view_is
     (done-answered before after c.args.command.now result (lt-ltb (party_of c.args.command.now) before.registry.engine.limits.parties below) c.run_command_of_party.ensures.named c.run_command_of_party.ensures.ok
-    c.run_command_of_party.ensures.kept.sound.one_index
+    (λ i j. sound-steps c.self.inside.registry c.self.invariant.sound i j (is_subtype_index c.self.inside.registry.made i j) refl)
+    (named-held c.self.inside.registry c.self.inside.counts (rows_of c.self.inside.rows.items) c.self.invariant) c.run_command_of_party.ensures.kept.sound.one_index
     (reached c.run_command_of_party.new.registry c.run_command_of_party.new.counts (rows_of c.run_command_of_party.new.rows.items) c.run_command_of_party.ensures.kept))
 
 pub returns-clause-reached : goal.returns-clause-reached
