@@ -44,7 +44,9 @@ abbrev pub decode_concrete : Data → Option WasmHeapType
 decode_concrete d =
     option_map_or (λ index. option_map heap.ConcreteFunc (decode_index index)) (only_at (codes "func") d) (
     option_map_or (λ index. option_map heap.ConcreteStruct (decode_index index)) (only_at (codes "struct") d) (
-    option_map_or (λ index. option_map heap.ConcreteArray (decode_index index)) (only_at (codes "array") d) None))
+    option_map_or (λ index. option_map heap.ConcreteArray (decode_index index)) (only_at (codes "array") d) (
+    option_map_or (λ index. option_map heap.ConcreteExn (decode_index index)) (only_at (codes "exn") d) (
+    option_map_or (λ index. option_map heap.ConcreteCont (decode_index index)) (only_at (codes "cont") d) None))))
 
 -- a heap type
 abbrev pub decode_heap : Data → Option WasmHeapType

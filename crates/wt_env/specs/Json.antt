@@ -13,6 +13,10 @@ key_count d = option_map_or members_len (as_object d) 0
 abbrev pub only_at : List ℕ → Data → Option Data
 only_at key d = if key_count d == 1 then get key d else None
 
+-- how many members an object has under a key: one, or none
+abbrev pub count_at : List ℕ → Data → ℕ
+count_at key d = option_map_or (λ member. 1) (get key d) 0
+
 -- a number of 32 bits
 abbrev pub u32_of : ℕ → Option ℕ
 u32_of n = if nat_lt n 4294967296 then Some n else None

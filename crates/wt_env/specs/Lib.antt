@@ -9,4 +9,5 @@ pub mod MemoryStream
 pub mod Status
 pub mod StdStream
 pub mod Stream
+pub mod Texts
 pub mod Among

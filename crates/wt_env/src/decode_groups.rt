@@ -1,28 +1,30 @@
 //! The recursion groups of a module from JSON: a list of groups, each a list of members. It rests on
 //! the readers of `json` and `decode_values`.
 
-ghost use Rattle.std.specs.Prelude.{◌≡◌, IfOk};
+ghost use Rattle.std.specs.Prelude.{◌≡◌, ◌≤◌, IfOk};
 ghost use Rattle.serde_json.specs.View.{view, items_view};
 ghost use Rattle.wt_env.specs.Json.{each_of};
-ghost use Rattle.wt_env.specs.DecodeValues.{decode_val, decode_field};
-ghost use Rattle.wt_env.specs.DecodeGroups.{decode_vals, func_from, decode_func, decode_struct, decode_array, composite_in, decode_member, decode_group, decode_groups};
+ghost use Rattle.wt_env.specs.DecodeValues.{decode_index, decode_val, decode_field};
+ghost use Rattle.wt_env.specs.DecodeGroups.{decode_vals, func_from, decode_func, decode_struct, decode_array, decode_cont, decode_constant, decode_constants, exn_from, exn_in, composite_in, final_in, super_in, shape_keys, known_keys, member_in, decode_member, decode_group, decode_groups};
 
-use crate::decode_values::{decode_field, decode_val};
-use crate::json::key_count;
+use crate::decode_values::{decode_field, decode_index, decode_val};
+use crate::json::{count_at, key_count};
 use crate::memory::OutOfMemory;
 use crate::seq::Seq;
 use crate::types::{
-    ModuleTypes, WasmArrayType, WasmCompositeInnerType, WasmFieldType, WasmFuncType, WasmRecGroup,
-    WasmStructType, WasmSubType, WasmValType,
+    EngineOrModuleTypeIndex, ModuleTypes, WasmArrayType, WasmCompositeInnerType, WasmContType,
+    WasmExnType, WasmFieldType, WasmFuncType, WasmRecGroup, WasmStorageType, WasmStructType,
+    WasmSubType, WasmValType,
 };
 use serde_json::Value;
 use std::alloc::Global;
 
 /// The recursion groups of a module (WebAssembly 3.0, "Types" and "Recursive Types"): a list of groups,
-/// each a list of members. A member is an object whose only key says the kind of its shape:
-/// `{"func": [parameters, results]}` with two lists of value types, `{"struct": [fields]}` or
-/// `{"array": field}`. It is final and has no supertype. `None` exactly where the value isn't of that
-/// form.
+/// each a list of members. A member is an object with the key of one shape, `"func"` (parameters and
+/// results, two lists of value types), `"struct"` (a list of fields), `"array"` (a field), `"cont"` (the
+/// index of a function type of the module) or `"exn"` (such an index) with `"fields"` (a list of value
+/// types). It may have `"final"` (a bool, else it is final) and `"super"` (the index of a type of the
+/// module, else it declares no supertype). `None` exactly where the value isn't of that form.
 pub fn decode_groups(alloc: Global, value: &Value) -> Result<Option<ModuleTypes>, OutOfMemory>
     ensures { IfOk result (λ types. types ≡ decode_groups (view value.now)) }
 {
@@ -70,30 +72,84 @@ fn members_of(alloc: Global, list: &[Value]) -> Result<Option<Seq<WasmSubType>>,
     Ok(Some(members))
 }
 
-/// A member of a group: an object whose only key says the kind of its shape.
+/// A member of a group: an object with the keys of one shape, maybe `final`, maybe `super`, and no
+/// other.
 fn decode_member(alloc: Global, value: &Value) -> Result<Option<WasmSubType>, OutOfMemory>
     ensures { IfOk result (λ member. member ≡ decode_member (view value.now)) }
 {
-    if key_count(value) != 1 {
+    if key_count(value) != known_keys(value) {
         return Ok(None);
     }
+    member_in(alloc, value)
+}
+
+/// How many keys a member has, if it has no other than it may.
+fn known_keys(value: &Value) -> usize
+    ensures { result ≡ known_keys (view value.now) }
+{
+    count_at(value, "final") + count_at(value, "super") + shape_keys(value)
+}
+
+/// How many keys a shape takes: two where it is an exception, else one.
+fn shape_keys(value: &Value) -> usize
+    ensures count { result ≡ shape_keys (view value.now) }
+    ensures bound { result ≤ 2 }
+{
+    1 + count_at(value, "exn")
+}
+
+/// The sub type that stands under the keys of an object (WebAssembly 3.0, "Recursive Types").
+fn member_in(alloc: Global, value: &Value) -> Result<Option<WasmSubType>, OutOfMemory>
+    ensures { IfOk result (λ member. member ≡ member_in (view value.now)) }
+{
+    let Some(is_final) = final_in(value) else {
+        return Ok(None);
+    };
+    let Some(supertype) = super_in(value) else {
+        return Ok(None);
+    };
     Ok(composite_in(alloc, value)?.map(|composite_type| WasmSubType {
-        is_final: true,
-        supertype: None,
+        is_final,
+        supertype,
         composite_type,
     }))
 }
 
-/// The shape under the key that says its kind (WebAssembly 3.0, "Composite Types").
+/// Whether a type is final: as `final` says, and where it isn't there, it is.
+fn final_in(value: &Value) -> Option<bool>
+    ensures { result ≡ final_in (view value.now) }
+{
+    match value.get("final") {
+        Some(is_final) => is_final.as_bool(),
+        None => Some(true),
+    }
+}
+
+/// The supertype that a type declares under `super`, if it does.
+fn super_in(value: &Value) -> Option<Option<EngineOrModuleTypeIndex>>
+    ensures { result ≡ super_in (view value.now) }
+{
+    match value.get("super") {
+        Some(index) => decode_index(index).map(Some),
+        None => Some(None),
+    }
+}
+
+/// The shape under the key that says its kind (WebAssembly 3.0, "Composite Types"; exceptions and
+/// continuations after wasmtime). An exception comes first, since it takes a second key.
 fn composite_in(alloc: Global, value: &Value) -> Result<Option<WasmCompositeInnerType>, OutOfMemory>
     ensures { IfOk result (λ shape. shape ≡ composite_in (view value.now)) }
 {
-    if let Some(func) = value.get("func") {
+    if let Some(func) = value.get("exn") {
+        Ok(exn_in(alloc, value, func)?.map(WasmCompositeInnerType::Exn))
+    } else if let Some(func) = value.get("func") {
         Ok(decode_func(alloc, func)?.map(WasmCompositeInnerType::Func))
     } else if let Some(fields) = value.get("struct") {
         Ok(decode_struct(alloc, fields)?.map(WasmCompositeInnerType::Struct))
     } else if let Some(field) = value.get("array") {
         Ok(decode_array(field).map(WasmCompositeInnerType::Array))
+    } else if let Some(func) = value.get("cont") {
+        Ok(decode_cont(func).map(WasmCompositeInnerType::Cont))
     } else {
         Ok(None)
     }
@@ -183,6 +239,68 @@ fn decode_array(value: &Value) -> Option<WasmArrayType>
     ensures { result ≡ decode_array (view value.now) }
 {
     decode_field(value).map(WasmArrayType)
+}
+
+/// A continuation type: the index of its function type (after wasmtime).
+fn decode_cont(value: &Value) -> Option<WasmContType>
+    ensures { result ≡ decode_cont (view value.now) }
+{
+    decode_index(value).map(WasmContType)
+}
+
+/// An exception type: the index of its function type, and the fields under their key (after
+/// wasmtime).
+fn exn_in(alloc: Global, value: &Value, func: &Value) -> Result<Option<WasmExnType>, OutOfMemory>
+    ensures { IfOk result (λ exn. exn ≡ exn_in (view value.now) (view func.now)) }
+{
+    match value.get("fields") {
+        Some(fields) => exn_from(alloc, func, fields),
+        None => Ok(None),
+    }
+}
+
+/// The exception type with the index of its function type, and its fields.
+fn exn_from(alloc: Global, func: &Value, fields: &Value) -> Result<Option<WasmExnType>, OutOfMemory>
+    ensures { IfOk result (λ exn. exn ≡ exn_from (view func.now) (view fields.now)) }
+{
+    let Some(func_ty) = decode_index(func) else {
+        return Ok(None);
+    };
+    Ok(decode_constants(alloc, fields)?.map(|fields| WasmExnType { func_ty, fields }))
+}
+
+/// The fields of an exception: a list of value types.
+fn decode_constants(alloc: Global, value: &Value) -> Result<Option<Seq<WasmFieldType>>, OutOfMemory>
+    ensures { IfOk result (λ fields. fields ≡ decode_constants (view value.now)) }
+{
+    match value.as_array() {
+        Some(list) => constants_of(alloc, list.as_slice()),
+        None => Ok(None),
+    }
+}
+
+/// The fields of an exception that elements stand for, if each is one.
+fn constants_of(alloc: Global, list: &[Value]) -> Result<Option<Seq<WasmFieldType>>, OutOfMemory>
+    ensures { IfOk result (λ fields. fields ≡ each_of decode_constant (items_view list.now)) }
+{
+    let mut fields = Seq::new(alloc);
+    for value in list {
+        match decode_constant(value) {
+            Some(field) => fields.push(field)?,
+            None => return Ok(None),
+        }
+    }
+    Ok(Some(fields))
+}
+
+/// A field of an exception: the value type that it stores, and it can't change.
+fn decode_constant(value: &Value) -> Option<WasmFieldType>
+    ensures { result ≡ decode_constant (view value.now) }
+{
+    decode_val(value).map(|val| WasmFieldType {
+        element_type: WasmStorageType::Val(val),
+        mutable: false,
+    })
 }
 
 #[cfg(test)]

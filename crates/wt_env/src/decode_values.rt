@@ -185,13 +185,17 @@ fn decode_concrete(value: &Value) -> Option<WasmHeapType>
         decode_index(index).map(WasmHeapType::ConcreteStruct)
     } else if let Some(index) = only_at(value, "array") {
         decode_index(index).map(WasmHeapType::ConcreteArray)
+    } else if let Some(index) = only_at(value, "exn") {
+        decode_index(index).map(WasmHeapType::ConcreteExn)
+    } else if let Some(index) = only_at(value, "cont") {
+        decode_index(index).map(WasmHeapType::ConcreteCont)
     } else {
         None
     }
 }
 
-/// A type of the module, by its index over all members of all groups.
-fn decode_index(value: &Value) -> Option<EngineOrModuleTypeIndex>
+/// A type of the module, by its index over all members of all groups from 0.
+pub fn decode_index(value: &Value) -> Option<EngineOrModuleTypeIndex>
     ensures { result ≡ decode_index (view value.now) }
 {
     decode_u32(value).map(|index| EngineOrModuleTypeIndex::Module(ModuleInternedTypeIndex(index)))
@@ -283,7 +287,8 @@ mod tests {
         {"mut":"i32","x":1}, {"mut":{"mut":"i32"}}, {"mut":"i31"}, {"mut":null},
         {"ref":"any","null":"any"}, {"null":"any","x":1}, {"ref":"anyref"}, {"ref":"i32"},
         {"ref":0}, {"null":null}, {"ref":{}}, {"ref":{"func":0,"array":0}},
-        {"ref":{"exn":0}}, {"ref":{"cont":0}}, {"ref":{"func":4294967296}},
+        {"ref":{"exn":-1}}, {"ref":{"cont":"0"}}, {"ref":{"exn":0,"fields":[]}},
+        {"ref":{"tag":0}}, {"ref":{"func":4294967296}},
         {"ref":{"struct":-1}}, {"ref":{"array":1.5}}, {"ref":{"func":1.0}},
         {"ref":{"func":null}}, {"ref":{"func":"0"}}
     ]"#;

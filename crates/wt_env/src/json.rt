@@ -1,9 +1,9 @@
 //! Looking into JSON values: the small readers that decoding shares. They rest on what `serde_json`
 //! says of a `Value`.
 
-ghost use Rattle.std.specs.Prelude.{◌≡◌, option_map};
+ghost use Rattle.std.specs.Prelude.{◌≡◌, ◌≤◌, option_map};
 ghost use Rattle.serde_json.specs.View.{view};
-ghost use Rattle.wt_env.specs.Json.{key_count, only_at, u32_of, decode_u32};
+ghost use Rattle.wt_env.specs.Json.{key_count, only_at, count_at, u32_of, decode_u32};
 
 use serde_json::Value;
 
@@ -25,6 +25,17 @@ pub fn only_at<'a>(value: &'a Value, key: &str) -> Option<&'a Value>
         value.get(key)
     } else {
         None
+    }
+}
+
+/// How many members an object has under a key: one, or none.
+pub fn count_at(value: &Value, key: &str) -> usize
+    ensures count { result ≡ count_at key.now (view value.now) }
+    ensures bound { result ≤ 1 }
+{
+    match value.get(key) {
+        Some(_) => 1,
+        None => 0,
     }
 }
 

@@ -10,6 +10,7 @@ pub mod limits;
 pub mod memory;
 pub mod memory_stream;
 pub mod seq;
+pub mod show;
 pub mod status;
 pub mod std_stream;
 pub mod stream;
