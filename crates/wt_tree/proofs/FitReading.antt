@@ -120,7 +120,7 @@ field-changed : (left right : Side) (a b : WasmFieldType) → Agree left (indice
     → field_fits left.read right.read (map_field_refs left.change a) (map_field_refs right.change b) ≡ field_fits left.read_before right.read_before a b
 field-changed left right a b p q = by-changed left right a.mutable b.mutable a.element_type b.element_type p q
 
-equal-changed : (left right : Side) (xs ys : List WasmFieldType) → Agree left (indices_of (kinded_fields xs)) → Agree right (indices_of (kinded_fields ys))
+pub equal-changed : (left right : Side) (xs ys : List WasmFieldType) → Agree left (indices_of (kinded_fields xs)) → Agree right (indices_of (kinded_fields ys))
     → fields_equal left.read right.read (map_fields_refs left.change xs) (map_fields_refs right.change ys) ≡ fields_equal left.read_before right.read_before xs ys
 equal-changed left right [] [] p q = refl
 equal-changed left right [] (y ∷ ys) p q = refl

@@ -120,10 +120,10 @@ super-none : (f : EngineOrModuleTypeIndex → EngineOrModuleTypeIndex) (s : Opti
 super-none f None is = refl
 super-none f (Some i) is = absurd (false≢true is)
 
-no_super : (t : WasmSubType) → is_own_trampoline t ≡ true → is_none t.supertype ≡ true
+pub no_super : (t : WasmSubType) → is_own_trampoline t ≡ true → is_none t.supertype ≡ true
 no_super t own = (and_parts t.is_final (is_none t.supertype) (and_parts (t.is_final && is_none t.supertype) (is_erased_shape t.composite_type) own).0).1
 
-own_erased : (t : WasmSubType) → is_own_trampoline t ≡ true → is_erased_shape t.composite_type ≡ true
+pub own_erased : (t : WasmSubType) → is_own_trampoline t ≡ true → is_erased_shape t.composite_type ≡ true
 own_erased t own = (and_parts (t.is_final && is_none t.supertype) (is_erased_shape t.composite_type) own).1
 
 sub_refs-own : (t : WasmSubType) → is_own_trampoline t ≡ true → sub_refs t ≡ []

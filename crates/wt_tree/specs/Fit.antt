@@ -116,7 +116,8 @@ fields_fit left right (x ∷ xs) (y ∷ ys) = field_fits left right x y && field
 
 -- ---- shapes
 
--- A function takes what the other takes, and gives what the other gives. The function types of two exceptions are one
+-- A function has as many parameters and results; the other's parameters fit its own, and its results the other's. The
+-- function types of two exceptions are one
 -- closed tree, and their fields are equal. The function type of a continuation is the other's by declared steps.
 abbrev pub shape_fits : (left right : EngineOrModuleTypeIndex → ClosedTree) → WasmCompositeInnerType → WasmCompositeInnerType → Bool
 shape_fits left right (shape.Func a) (shape.Func b) = vals_fit right left b.params a.params && vals_fit left right a.results b.results

@@ -1,4 +1,4 @@
-//! When one type may stand for another (WebAssembly 3.0, "Matching"; exceptions and continuations after wasmtime), by
+//! When one type matches another, and so may stand for it (WebAssembly 3.0, "Matching"; exceptions and continuations after wasmtime), by
 //! the engine indices in them. It rests on `Supers` for the types that those name. Nothing here takes memory.
 
 ghost use Rattle.std.specs.Prelude.{◌≡◌, ◌&&◌, List, [], ◌∷◌};
@@ -88,8 +88,8 @@ fn heap_fits<S: Supers>(a: WasmHeapType, b: WasmHeapType, supers: &S) -> bool
     a.top() == b.top() && (is_bottom(a) || b.is_top() || inner_fits(a, b, supers))
 }
 
-/// Whether a reference type may stand for another: it isn't nullable, or the other is, and its heap type is the
-/// other's or below it. Every type index in the two has a closed tree.
+/// Whether a reference type matches another: it isn't nullable, or the other is, and its heap type is the other's or
+/// below it. Every type index in the two is an engine index that has a closed tree.
 pub fn fit_ref<S: Supers>(a: &WasmRefType, b: &WasmRefType, supers: &S) -> bool
     requires a { AreKnown (S.types supers.now) (indices_of (kinded.kinded_heap a.now.heap_type)) }
     requires b { AreKnown (S.types supers.now) (indices_of (kinded.kinded_heap b.now.heap_type)) }
@@ -98,8 +98,8 @@ pub fn fit_ref<S: Supers>(a: &WasmRefType, b: &WasmRefType, supers: &S) -> bool
     (!a.nullable || b.nullable) && heap_fits(a.heap_type, b.heap_type, supers)
 }
 
-/// Whether a value type may stand for another: a number or a vector for itself alone, a reference by `fit_ref`. Every
-/// type index in the two has a closed tree.
+/// Whether a value type matches another: a number or a vector itself alone, a reference by `fit_ref`. Every type index
+/// in the two is an engine index that has a closed tree.
 pub fn fit_val<S: Supers>(a: &WasmValType, b: &WasmValType, supers: &S) -> bool
     requires a { AreKnown (S.types supers.now) (indices_of (kinded.kinded_val a.now)) }
     requires b { AreKnown (S.types supers.now) (indices_of (kinded.kinded_val b.now)) }
@@ -132,8 +132,8 @@ fn vals_fit<S: Supers>(a: &[WasmValType], b: &[WasmValType], supers: &S) -> bool
     true
 }
 
-/// Whether a storage type may stand for another: a packed number for itself alone, a value type by `fit_val`. Every
-/// type index in the two has a closed tree.
+/// Whether a storage type matches another: a packed number itself alone, a value type by `fit_val`. Every type index in
+/// the two is an engine index that has a closed tree.
 pub fn fit_storage<S: Supers>(a: &WasmStorageType, b: &WasmStorageType, supers: &S) -> bool
     requires a { AreKnown (S.types supers.now) (indices_of (kinded.kinded_storage a.now)) }
     requires b { AreKnown (S.types supers.now) (indices_of (kinded.kinded_storage b.now)) }
@@ -147,9 +147,9 @@ pub fn fit_storage<S: Supers>(a: &WasmStorageType, b: &WasmStorageType, supers: 
     }
 }
 
-/// Whether a field type may stand for another: both are constant, and its storage type may stand for the other's; or
-/// both are variable, and the storage types are equal, so that each may stand for the other. Every type index in the
-/// two has a closed tree.
+/// Whether a field type matches another: both are constant, and its storage type matches the other's; or both are
+/// variable, and the storage types are equal, so that each matches the other. Every type index in the two is an engine
+/// index that has a closed tree.
 pub fn fit_field<S: Supers>(a: &WasmFieldType, b: &WasmFieldType, supers: &S) -> bool
     requires a { AreKnown (S.types supers.now) (indices_of (kinded.kinded_field a.now)) }
     requires b { AreKnown (S.types supers.now) (indices_of (kinded.kinded_field b.now)) }
@@ -197,11 +197,11 @@ fn fields_fit<S: Supers>(a: &[WasmFieldType], b: &[WasmFieldType], supers: &S) -
     true
 }
 
-/// Whether a shape may stand for another. A struct has at least the other's fields, and each may stand for the one at
-/// its place; so does an array's. A function takes at least what the other takes, and gives at most what the other
-/// gives, place by place. An exception has the same function type and equal fields. A continuation has a function type
-/// that declared steps lead from to the other's. Shapes of two kinds never fit. Every type index in the two has a
-/// closed tree.
+/// Whether a shape matches another. A struct has at least as many fields as the other, and its field at the place of
+/// each of the other's matches that; so does an array's. A function has as many parameters and results as the other;
+/// each of the other's parameters matches the function's, and each of its results matches the other's. An exception
+/// has the same function type and equal fields. A continuation has a function type that declared steps lead from to the
+/// other's. Shapes of two kinds never match. Every type index in the two is an engine index that has a closed tree.
 pub fn fit_shape<S: Supers>(
     a: &WasmCompositeInnerType,
     b: &WasmCompositeInnerType,

@@ -1,4 +1,4 @@
-//! Laws of declared supertypes: facts that follow for whatever knows closed trees by index, each carried by the calls
+//! Laws of subtyping by declared supertypes: facts that follow for whatever knows closed trees by index, each carried by the calls
 //! that it is about.
 
 ghost use Rattle.std.specs.Prelude.{◌≡◌, Some, IsTrue, IsSome};
@@ -33,7 +33,7 @@ pub struct StepsAndFit {
     pub fits: bool,
 }
 
-/// Declared supertypes are reflexive: each type is below itself.
+/// Subtyping is reflexive: each type is below itself.
 pub fn reflexive<S: Supers>(supers: &S, index: VMSharedTypeIndex) -> bool
     requires { IsSome (S.types supers.now index) }
     ensures steps { TellsSteps (S.types supers.now) index index result }
@@ -42,7 +42,7 @@ pub fn reflexive<S: Supers>(supers: &S, index: VMSharedTypeIndex) -> bool
     supers.is_subtype(index, index)
 }
 
-/// Declared supertypes are transitive: where the first is below the second, and that below the third, the first is
+/// Subtyping is transitive: where the first is below the second, and that below the third, the first is
 /// below the third.
 pub fn transitive<S: Supers>(
     supers: &S,
@@ -65,7 +65,7 @@ pub fn transitive<S: Supers>(
     }
 }
 
-/// Declared supertypes are antisymmetric: two types of which each is below the other have one index.
+/// Subtyping is antisymmetric: two types of which each is below the other have one index.
 pub fn antisymmetric<S: Supers>(
     supers: &S,
     first: VMSharedTypeIndex,

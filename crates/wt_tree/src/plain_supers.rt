@@ -41,8 +41,8 @@ impl PlainSupers {
     }
 
     /// Tells what is true of every such list: different indices have different closed trees, what a type declares as its
-    /// supertype has an index too, and the shape of each type may stand for that of its declared supertype.
-    pub fn assure(&self)
+    /// supertype has an index too and is before the type, and the shape of each type may stand for that of its declared supertype.
+    pub fn tell_invariant(&self)
         ensures map { IsTypeMap (plain_types self.now) }
         ensures fit { StepsFit (plain_types self.now) }
     {
@@ -67,7 +67,7 @@ impl PlainSupers {
         requires sup { IsSome (plain_types self.now sup) }
         ensures { result ≡ is_sub (named_by (plain_types self.now) (type_index.Engine sub)) (named_by (plain_types self.now) (type_index.Engine sup)) }
     {
-        self.assure();
+        self.tell_invariant();
         let mut current = sub;
         while current.bits() != sup.bits() {
             match self.supertype(current) {
@@ -83,7 +83,7 @@ impl Supers for PlainSupers {
     ghost types = { plain_types };
 
     fn is_subtype(&self, sub: VMSharedTypeIndex, sup: VMSharedTypeIndex) -> bool {
-        self.assure();
+        self.tell_invariant();
         self.leads(sub, sup)
     }
 }

@@ -9,7 +9,7 @@ ghost use Rattle.wt_tree.specs.Fit.{ShowsAt};
 use wt_env::types::{EngineOrModuleTypeIndex, VMSharedTypeIndex, WasmSubType};
 
 /// Closed trees by index, and whether declared supertype steps lead from one to another. Different indices have
-/// different closed trees, and what a type declares as its supertype has an index too.
+/// different closed trees, and what a type declares as its supertype has an index too, and is before the type.
 pub trait Supers {
     /// The closed tree of each index that has one.
     ghost types: { Self → Shared → Option ClosedTree };

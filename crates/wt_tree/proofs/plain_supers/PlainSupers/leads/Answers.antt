@@ -11,12 +11,12 @@ use Rattle.wt_tree.proofs.plain_supers.PlainSupers.leads.Goals as goal
 
 pub loop-sup-smaller : goal.loop-sup-smaller
 loop-sup-smaller c =
-    let map = c.assure.ensures.map in
+    let map = c.tell_invariant.ensures.map in
     walk-falls (plain_types c.args.self.now) map c.loop-sup.current c.in-Some.supertype c.loop-sup.invariant.known c.in-Some.ensures.known c.in-Some.ensures.declared
 
 pub loop-sup-preserved : goal.loop-sup-preserved
 loop-sup-preserved c =
-    let map = c.assure.ensures.map in
+    let map = c.tell_invariant.ensures.map in
     let differ : c.loop-sup.current ≡ c.args.sup → ⊥ = λ same. c.loop-sup-test.true (c.bits.ensures ∙ ap (λ (i : VMSharedTypeIndex). i.0) same ∙ sym c.bits-in-loop-sup.ensures) in record {
       known = c.in-Some.ensures.known;
       answer = walk-step (plain_types c.args.self.now) map c.loop-sup.current c.in-Some.supertype c.args.sup c.loop-sup.invariant.known c.in-Some.ensures.known c.requires.sup differ c.in-Some.ensures.declared
@@ -25,7 +25,7 @@ loop-sup-preserved c =
 
 pub returns-in-None : goal.returns-in-None
 returns-in-None c =
-    let map = c.assure.ensures.map in
+    let map = c.tell_invariant.ensures.map in
     let differ : c.loop-sup.current ≡ c.args.sup → ⊥ = λ same. c.loop-sup-test.true (c.bits.ensures ∙ ap (λ (i : VMSharedTypeIndex). i.0) same ∙ sym c.bits-in-loop-sup.ensures) in
     sym (walk-end (plain_types c.args.self.now) map c.loop-sup.current c.args.sup c.loop-sup.invariant.known c.requires.sup differ (sym c.in-None.ensures.declared)) ∙ c.loop-sup.invariant.answer
 

@@ -4,4 +4,4 @@ use Rattle.wt_tree.proofs.ToldSteps.{told-by-test}
 use Rattle.wt_tree.proofs.plain_supers.PlainSupersSupers.is_subtype.Goals as goal
 
 pub returns-clause-steps : goal.returns-clause-steps
-returns-clause-steps c = told-by-test (plain_types c.args.self.now) c.assure.ensures.map c.args.sub c.args.sup c.leads.result c.leads.ensures
+returns-clause-steps c = told-by-test (plain_types c.args.self.now) c.tell_invariant.ensures.map c.args.sub c.args.sup c.leads.result c.leads.ensures

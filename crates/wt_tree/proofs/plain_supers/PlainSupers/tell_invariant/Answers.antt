@@ -2,7 +2,7 @@
 use Rattle.std.proofs.Common.{subst}
 use Rattle.wt_tree.specs.PlainTypes.{ArePlain}
 use Rattle.wt_tree.proofs.PlainTypes.{plain-map}
-use Rattle.wt_tree.proofs.plain_supers.PlainSupers.assure.Goals as goal
+use Rattle.wt_tree.proofs.plain_supers.PlainSupers.tell_invariant.Goals as goal
 
 pub returns-clause-map : goal.returns-clause-map
 returns-clause-map c = plain-map c.args.self.now (subst ArePlain c.self.view_is c.self.invariant)
