@@ -1,5 +1,5 @@
-pub mod KeptRules
-pub mod KindLookup
 pub mod ModuleReferences
 pub mod Referring
 pub mod Functions
+pub mod ShownRules
+pub mod KeptRules

@@ -1,1 +1,2 @@
+pub mod TypeRules
 pub mod Rules

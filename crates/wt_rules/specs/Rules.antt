@@ -1,8 +1,8 @@
--- The rules that the recursion groups of a module keep (WebAssembly 3.0, "Recursive Types" and "Heap Types"; a
--- kind for each concrete reference, exceptions and continuations after wasmtime). The references of a module
+-- The rules that the recursion groups of a module keep (WebAssembly 3.0, "Recursive Types", "Heap Types" and "Matching";
+-- a kind for each concrete reference, exceptions and continuations after wasmtime). The references of a module
 -- are Module indices, which count the members of all groups from 0.
-use Rattle.std.specs.Prelude.{◌≡◌, ℕ, ◌+◌, ◌<◌, ◌^◌, List, [], ◌∷◌, length, map, slice_get, Bool, true, false, not, nat_lt, if◌then◌else◌, Option, Some, None, option_map}
-use Rattle.std.specs.List.{flat_map, list_all, list_any}
+use Rattle.std.specs.Prelude.{◌≡◌, ℕ, ◌+◌, ◌<◌, ◌^◌, List, [], ◌∷◌, ◌++◌, length, Bool, true, false, not, nat_lt, if◌then◌else◌, Option, Some, None, option_map}
+use Rattle.std.specs.List.{list_all, list_any}
 use Rattle.std.specs.Option.{option_or}
 use Rattle.wt_env.specs.declared.types.EngineOrModuleTypeIndex.{EngineOrModuleTypeIndex}
 use Rattle.wt_env.specs.declared.types.EngineOrModuleTypeIndex.TheVariants as index
@@ -11,12 +11,15 @@ use Rattle.wt_env.specs.declared.types.Kind.TheVariants as kind
 use Rattle.wt_env.specs.declared.types.WasmSubType.{WasmSubType}
 use Rattle.wt_env.specs.declared.types.WasmRecGroup.{WasmRecGroup}
 use Rattle.wt_env.specs.Among.{Among}
-use Rattle.wt_tree.specs.Kinds.{member_kind, kind_eq, kinded_refs, type_indices}
+use Rattle.wt_tree.specs.Kinds.{member_kind, kind_eq, type_indices}
 use Rattle.wt_tree.specs.References.{super_refs, sub_refs}
+use Rattle.wt_tree.specs.Tree.{ClosedTree}
+use Rattle.wt_tree.specs.ModuleTree.{group_tree, members_from}
 use Rattle.wt_rules.specs.declared.place.Place.{Place}
 use Rattle.wt_rules.specs.declared.place.Place.TheVariants as place
 use Rattle.wt_rules.specs.declared.place.Rule.{Rule}
 use Rattle.wt_rules.specs.declared.place.Rule.TheVariants as rule
+use Rattle.wt_rules.specs.TypeRules.{broken_type}
 
 -- ---- the members of a module
 
@@ -29,10 +32,6 @@ total_members (group ∷ rest) = length group.types + total_members rest
 pub record AreCountable (groups : List WasmRecGroup) : Type 0 where
   pub few_groups : length groups < 2 ^ 32
   pub few_members : total_members groups < 2 ^ 32
-
--- the kinds of all members of all groups, in order: entry n is that of the type with Module index n
-abbrev pub kinds_of : List WasmRecGroup → List Kind
-kinds_of groups = flat_map (λ group. map member_kind group.types) groups
 
 -- ---- a type refers to none that is after its group
 
@@ -52,22 +51,6 @@ breaks_forward end t = list_any (is_forward end) (sub_refs t)
 abbrev pub breaks_super_order : ℕ → WasmSubType → Bool
 breaks_super_order own t = list_any (is_forward own) (super_refs t.supertype)
 
--- ---- a reference names a type of the kind that it says
-
--- whether what a member is, if there is one, isn't what is wanted
-abbrev pub is_other : Kind → Option Kind → Bool
-is_other wanted (Some found) = not (kind_eq wanted found)
-is_other wanted None = true
-
--- whether an index names a member of another kind, where these are the kinds of all members
-abbrev pub has_other_kind : List Kind → Kind → EngineOrModuleTypeIndex → Bool
-has_other_kind kinds wanted (index.Engine i) = false
-has_other_kind kinds wanted (index.Module i) = is_other wanted (slice_get kinds i.0)
-has_other_kind kinds wanted (index.RecGroup k) = false
-
-abbrev pub breaks_kind : List Kind → WasmSubType → Bool
-breaks_kind kinds t = list_any (λ reference. has_other_kind kinds reference.0 reference.1) (kinded_refs t)
-
 -- ---- the first rule that is broken
 
 -- the first rule on the order of types that a type breaks, by the end of its group and its own index
@@ -77,41 +60,45 @@ broken_order end own t =
     else if breaks_super_order own t then Some rule.SuperOrder
     else None
 
--- the first rule on what the types are that a type names, by the kinds of all and its own index
-abbrev pub broken_types : List Kind → ℕ → WasmSubType → Option Rule
-broken_types kinds own t = if breaks_kind kinds t then Some rule.Kind else None
-
--- The first member for which a rule is broken, by its place in the group that starts there, and which. The first of
--- these has this place.
-abbrev pub first_member : (ℕ → WasmSubType → Option Rule) → ℕ → ℕ → List WasmSubType → Option (ℕ × Rule)
-first_member broken start member [] = None
-first_member broken start member (t ∷ members) =
+-- The first of some things that breaks a rule, by its place, and which; the first of them has this place.
+abbrev pub first_of : {A : Type 0} → (ℕ → A → Option Rule) → ℕ → List A → Option (ℕ × Rule)
+first_of broken place [] = None
+first_of broken place (x ∷ xs) =
     option_or
-    (option_map (λ which. (member, which)) (broken (start + member) t))
-    (first_member broken start (member + 1) members)
+    (option_map (λ which. (place, which)) (broken place x))
+    (first_of broken (place + 1) xs)
 
--- The first member of a group that breaks a rule, and which: what the types are is looked at where the whole group
--- keeps the order. Before the group are as many members as start says.
-abbrev pub broken_in : List Kind → ℕ → List WasmSubType → Option (ℕ × Rule)
-broken_in kinds start members =
-    option_or
-    (first_member (broken_order (start + length members)) start 0 members)
-    (first_member (broken_types kinds) start 0 members)
+-- the first member of a group that breaks a rule on the order of types, behind so many types of the module
+abbrev pub first_disorder : ℕ → List WasmSubType → Option (ℕ × Rule)
+first_disorder start members = first_of (λ place. broken_order (start + length members) (start + place)) 0 members
+
+-- the first of some types that breaks a rule on what it names
+abbrev pub first_misnamed : List ClosedTree → Option (ℕ × Rule)
+first_misnamed trees = first_of (λ place. broken_type) 0 trees
+
+-- the closed trees of a group's types, behind those that are known
+abbrev pub group_trees : List ClosedTree → WasmRecGroup → List ClosedTree
+group_trees known group = members_from (group_tree known group.types) 0 (length group.types)
+
+-- The first member of a group that breaks a rule, and which, behind the types that are known: what its types name is
+-- looked at where the whole group keeps the order.
+abbrev pub broken_in : List ClosedTree → WasmRecGroup → Option (ℕ × Rule)
+broken_in known group = option_or (first_disorder (length known) group.types) (first_misnamed (group_trees known group))
 
 abbrev pub placed_in : ℕ → ℕ × Rule → Place × Rule
 placed_in number broken = (place.Member number broken.0, broken.1)
 
--- The same of the groups from the one with this number on, where these are the kinds of all members of the module.
-abbrev pub first_broken_from : List Kind → ℕ → ℕ → List WasmRecGroup → Option (Place × Rule)
-first_broken_from kinds number start [] = None
-first_broken_from kinds number start (group ∷ rest) =
+-- The same of the groups from the one with this number on, behind the types that are known.
+abbrev pub first_broken_from : ℕ → List ClosedTree → List WasmRecGroup → Option (Place × Rule)
+first_broken_from number known [] = None
+first_broken_from number known (group ∷ rest) =
     option_or
-    (option_map (placed_in number) (broken_in kinds start group.types))
-    (first_broken_from kinds (number + 1) (start + length group.types) rest)
+    (option_map (placed_in number) (broken_in known group))
+    (first_broken_from (number + 1) (known ++ group_trees known group) rest)
 
 -- The first member of a module that breaks a rule of its groups, by its group and its place there, and which.
 abbrev pub first_broken : List WasmRecGroup → Option (Place × Rule)
-first_broken groups = first_broken_from (kinds_of groups) 0 0 groups
+first_broken groups = first_broken_from 0 [] groups
 
 -- ---- an engine that has functions only
 

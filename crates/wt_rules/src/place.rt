@@ -23,4 +23,16 @@ pub enum Rule {
     /// continuation is one (WebAssembly 3.0, "Heap Types"; a kind for each concrete reference, exceptions and
     /// continuations after wasmtime).
     Kind,
+    /// A supertype isn't final (WebAssembly 3.0, "Recursive Types").
+    SuperFinal,
+    /// A supertype is of the type's kind (WebAssembly 3.0, "Matching").
+    SuperKind,
+    /// A type's shape matches that of its supertype (WebAssembly 3.0, "Recursive Types" and "Matching").
+    SuperMismatch,
+    /// An exception is final and has no supertype (after wasmtime).
+    ExnOpen,
+    /// The function of an exception has no results (WebAssembly 3.0, "Tag Types").
+    ExnResults,
+    /// The fields of an exception are constant, and hold its function's parameters (after wasmtime).
+    ExnFields,
 }

@@ -2,7 +2,7 @@
 use Rattle.std.proofs.Common.{◌≡◌, drop}
 use Rattle.std.specs.List.{list_any}
 use Rattle.wt_tree.specs.Kinds.{kinded_val, kinded_vals}
-use Rattle.wt_rules.proofs.rules.any_of_vals.Given as goal
+use Rattle.wt_rules.proofs.kinds.any_of_vals.Given as goal
 
 abbrev pub invariant-loop-ty : goal.invariant-loop-ty
 invariant-loop-ty g l =

@@ -2,7 +2,7 @@
 use Rattle.std.proofs.Common.{◌≡◌, drop}
 use Rattle.std.specs.List.{list_any}
 use Rattle.wt_tree.specs.Kinds.{kinded_field, kinded_fields}
-use Rattle.wt_rules.proofs.rules.any_of_fields.Given as goal
+use Rattle.wt_rules.proofs.kinds.any_of_fields.Given as goal
 
 abbrev pub invariant-loop-field : goal.invariant-loop-field
 invariant-loop-field g l =
