@@ -7,6 +7,8 @@ use Rattle.wt_env.specs.declared.types.WasmSubType.{WasmSubType}
 use Rattle.wt_env.specs.declared.types.WasmRecGroup.{WasmRecGroup}
 use Rattle.wt_tree.specs.Tree.{ClosedTree}
 use Rattle.wt_tree.specs.ModuleTree.{module_trees}
+use Rattle.wt_rules.specs.declared.place.Place.{Place}
+use Rattle.wt_rules.specs.declared.place.Rule.{Rule}
 use Rattle.wt_rules.specs.Rules.{first_broken, is_function, are_functions}
 use Rattle.wt_model.specs.declared.handle_kind.HandleKind.{HandleKind}
 use Rattle.wt_model.specs.declared.refusal.BuildRefusal.{BuildRefusal}
@@ -36,10 +38,13 @@ registration_plan registry (module_groups groups) = plan_groups (empty_plan regi
 
 -- ---- the build checks
 
+abbrev pub invalid_module : Place × Rule → BuildRefusal
+invalid_module broken = refusal.InvalidModule broken.0 broken.1
+
 -- the first rule of module types that is broken
 abbrev pub rule_refusal : Registration → Option BuildRefusal
 rule_refusal (host_type ty) = None
-rule_refusal (module_groups groups) = option_map (λ broken. refusal.InvalidModule broken.0 broken.1) (first_broken groups)
+rule_refusal (module_groups groups) = option_map invalid_module (first_broken groups)
 
 -- whether it has functions alone
 abbrev pub has_functions_alone : Registration → Bool

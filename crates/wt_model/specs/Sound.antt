@@ -1,13 +1,15 @@
 -- What is true of every registry.
-use Rattle.std.specs.Prelude.{◌≡◌, ◌≢◌, ◌↔◌, ℕ, ◌<◌, ◌≤◌, ◌⊎◌, List, [], ◌∷◌, length, map, slice_get, slice_index, true, false, Some}
+use Rattle.std.specs.Prelude.{◌≡◌, ◌≢◌, ◌↔◌, ℕ, ◌<◌, ◌≤◌, ◌⊎◌, List, [], ◌∷◌, length, map, slice_get, slice_index, true, false, Some, None}
 use Rattle.wt_env.specs.Limits.{EngineParts}
 use Rattle.wt_env.specs.Among.{Among}
 use Rattle.wt_env.specs.declared.types.VMSharedTypeIndex.{VMSharedTypeIndex}
+use Rattle.wt_tree.specs.Tree.{ClosedTree}
+use Rattle.wt_rules.specs.TypeRules.{broken_type}
 use Rattle.wt_model.specs.Registered.{RegisteredGroup, GroupHolds, Registry}
 use Rattle.wt_model.specs.Trees.{trees}
 use Rattle.wt_model.specs.NamedTypes.{NameTypes}
 use Rattle.wt_model.specs.Trampolines.{HaveTrampolines}
-use Rattle.wt_model.specs.Indices.{locate}
+use Rattle.wt_model.specs.Indices.{locate, closed_tree}
 use Rattle.wt_model.specs.Reach.{edges, Reach}
 use Rattle.wt_model.specs.Holds.{is_held, held_at, waiting}
 use Rattle.wt_model.specs.Removal.{is_root, is_reached}
@@ -45,6 +47,11 @@ AreIndexed made = (a : RegisteredGroup) → Among a made → length a.indices �
 -- every index is below the limit on types
 abbrev pub AreBelow : ℕ → List RegisteredGroup → Type 0
 AreBelow bound made = (a : RegisteredGroup) (i : VMSharedTypeIndex) → Among a made → Among i a.indices → i.0 < bound
+
+-- No registered type breaks a rule on what it names: its references name types of the kinds that they say, its supertype
+-- isn't final, is of its kind and is one that its shape matches, and an exception keeps the rules on exceptions.
+abbrev pub KeepRules : List RegisteredGroup → Type 0
+KeepRules made = (i : VMSharedTypeIndex) (t : ClosedTree) → closed_tree made i ≡ Some t → broken_type t ≡ None
 
 -- ---- holds
 
@@ -85,6 +92,7 @@ pub record IsSound (registry : Registry) : Type 0 where
   pub indexed : AreIndexed registry.made
   pub below : AreBelow registry.engine.limits.types registry.made
   pub name_types : NameTypes registry.made
+  pub rules : KeepRules registry.made
   pub trampolines : HaveTrampolines registry.made
   pub holds : HoldsInvariant registry.engine registry.made registry.standings
   pub reached : AreReached registry

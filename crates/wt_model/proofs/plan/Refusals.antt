@@ -9,7 +9,7 @@ use Rattle.wt_rules.specs.Rules.{is_function, are_functions, first_broken}
 use Rattle.wt_model.specs.declared.refusal.BuildRefusal.TheVariants as refusal
 use Rattle.wt_model.specs.Registered.{Registry}
 use Rattle.wt_model.specs.Limits.{passed_limit}
-use Rattle.wt_model.specs.Registration.{Registration, host_type, module_groups, registration_plan, rule_refusal, has_functions_alone, gc_refusal, limit_refusal, registration_refusal}
+use Rattle.wt_model.specs.Registration.{Registration, host_type, module_groups, registration_plan, invalid_module, rule_refusal, has_functions_alone, gc_refusal, limit_refusal, registration_refusal}
 
 -- garbage collection, or functions alone
 allowed : (gc functions : Bool) → (gc ≡ true) ⊎ (functions ≡ true) → (gc || functions) ≡ true
@@ -31,18 +31,18 @@ host-refusal registry party ty function = by_limit registry party (host_type ty)
 pub module-refusal : (registry : Registry) (party : ℕ) (groups : List WasmRecGroup) → first_broken groups ≡ None → (registry.engine.gc ≡ true) ⊎ (are_functions groups ≡ true)
     → registration_refusal registry party (module_groups groups) ≡ option_map refusal.Full (passed_limit registry party (registration_plan registry (module_groups groups)))
 module-refusal registry party groups rules may =
-    by_limit registry party (module_groups groups) (ap (option_map (λ (broken : Place × Rule). refusal.InvalidModule broken.0 broken.1)) rules) (gc-allowed registry (module_groups groups) may)
+    by_limit registry party (module_groups groups) (ap (option_map invalid_module) rules) (gc-allowed registry (module_groups groups) may)
 
 -- a broken rule is the first cause
 pub module-broken : (registry : Registry) (party : ℕ) (groups : List WasmRecGroup) (place : Place) (rule : Rule) → first_broken groups ≡ Some (place, rule)
     → registration_refusal registry party (module_groups groups) ≡ Some (refusal.InvalidModule place rule)
 module-broken registry party groups place rule broken =
-    ap (λ (found : Option (Place × Rule)). option_or (option_map (λ (b : Place × Rule). refusal.InvalidModule b.0 b.1) found)
+    ap (λ (found : Option (Place × Rule)). option_or (option_map invalid_module found)
     (option_or (gc_refusal registry (module_groups groups)) (limit_refusal registry party (module_groups groups)))) broken
 
 -- and then that there is no garbage collection
 pub module-no_gc : (registry : Registry) (party : ℕ) (groups : List WasmRecGroup) → first_broken groups ≡ None → registry.engine.gc ≡ false → are_functions groups ≡ false
     → registration_refusal registry party (module_groups groups) ≡ Some refusal.NoGc
 module-no_gc registry party groups rules gc functions =
-    (λ i. option_or (option_map (λ (b : Place × Rule). refusal.InvalidModule b.0 b.1) (rules i))
+    (λ i. option_or (option_map invalid_module (rules i))
     (option_or (cond (gc i || functions i) None (Some refusal.NoGc)) (limit_refusal registry party (module_groups groups))))

@@ -6,13 +6,13 @@ use Rattle.wt_env.specs.Among.{Among}
 use Rattle.wt_model.specs.Holds.{held_at, waits_at, change, gained, full_of_holds, hold}
 use Rattle.wt_model.specs.NamedTypes.{NameTypes}
 use Rattle.wt_model.specs.Trampolines.{HaveTrampolines}
-use Rattle.wt_model.specs.Sound.{IsRising, OneIndexPerTree, NamesOlder, IsLocated, AreIndexed, AreBelow, AreReached, IsSound}
+use Rattle.wt_model.specs.Sound.{IsRising, OneIndexPerTree, NamesOlder, IsLocated, AreIndexed, AreBelow, KeepRules, AreReached, IsSound}
 use Rattle.wt_model.specs.Removal.{is_root, is_reached, reached_in, reached_part, drop_hold, sweep_debt, fewer, fewer_of, release_holds}
 use Rattle.wt_model.specs.Sound.{HoldsInvariant}
 use Rattle.wt_model.specs.Holds.{no_longer}
 use Rattle.wt_model.proofs.holds.HeldMore.{with_more}
 use Rattle.wt_model.proofs.holds.HoldIn.{gained-stand_in}
-use Rattle.wt_model.proofs.removal.KeptPart.{led-named, indexed-kept, below-kept, rising-kept, names_older-kept, is_located-kept, one_index-kept, name_types-kept, have_trampolines-kept}
+use Rattle.wt_model.proofs.removal.KeptPart.{led-named, indexed-kept, below-kept, rising-kept, names_older-kept, is_located-kept, one_index-kept, name_types-kept, rules-kept, have_trampolines-kept}
 use Rattle.wt_model.proofs.removal.Removing.{part-led, drop_answered, drop-stands, sweep_answered, swept-stands, release-stands}
 use Rattle.wt_model.proofs.removal.RemovalChanges.{stands-reached}
 
@@ -24,6 +24,7 @@ pub record IsConsistent (registry : Registry) : Type 0 where
   pub indexed : AreIndexed registry.made
   pub below : AreBelow registry.engine.limits.types registry.made
   pub name_types : NameTypes registry.made
+  pub rules : KeepRules registry.made
   pub trampolines : HaveTrampolines registry.made
   pub holds : HoldsInvariant registry.engine registry.made registry.standings
 
@@ -39,6 +40,7 @@ consistent-sound registry is = record {
   indexed = is.indexed;
   below = is.below;
   name_types = is.name_types;
+  rules = is.rules;
   trampolines = is.trampolines;
   holds = is.holds;
   reached = consistent-reached registry is;
@@ -49,7 +51,7 @@ abbrev with_counts : Registry → List GroupHolds → Registry
 with_counts registry standings = record registry { standings = standings }
 
 counts-consistent : (registry : Registry) (standings : List GroupHolds) → IsConsistent registry → HoldsInvariant registry.engine registry.made standings → IsConsistent (with_counts registry standings)
-counts-consistent registry standings is are = record { rising = is.rising; one_index = is.one_index; names_older = is.names_older; is_located = is.is_located; indexed = is.indexed; below = is.below; name_types = is.name_types; trampolines = is.trampolines; holds = are }
+counts-consistent registry standings is are = record { rising = is.rising; one_index = is.one_index; names_older = is.names_older; is_located = is.is_located; indexed = is.indexed; below = is.below; name_types = is.name_types; rules = is.rules; trampolines = is.trampolines; holds = are }
 
 -- without what isn't reached by these counts
 part-consistent : (registry : Registry) (standings : List GroupHolds) → IsConsistent registry
@@ -66,6 +68,7 @@ part-consistent registry standings is are =
       indexed = indexed-kept (reached_in with) registry.made is.indexed;
       below = below-kept (reached_in with) registry.made registry.engine.limits.types is.below;
       name_types = name_types-kept (reached_in with) registry.made (led-named (reached_in with) registry.made named) is.name_types;
+      rules = rules-kept (reached_in with) registry.made (led-named (reached_in with) registry.made named) is.is_located is.rules;
       trampolines = have_trampolines-kept (reached_in with) registry.made named is.trampolines;
       holds = are;
     }

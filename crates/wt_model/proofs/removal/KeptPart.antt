@@ -1,28 +1,27 @@
 -- Where the groups whose numbers pass are kept, and what they name passes: what is true of them stays true.
-use Rattle.std.proofs.Common.{◌≡◌, ℕ, ◌<◌, ◌≤◌, ◌==◌, inl, inr, Bool, true, false, cond, ◌||◌, ◌&&◌, List, [], ◌∷◌, map, Option, Some, None, refl, sym, ap, ◌∙◌, arith}
+use Rattle.std.proofs.Common.{◌≡◌, ℕ, ◌<◌, ◌≤◌, ◌==◌, inl, inr, Bool, true, false, cond, ◌||◌, ◌&&◌, List, [], ◌∷◌, map, Option, Some, None, option_map, refl, sym, ap, ◌∙◌, arith}
 use Rattle.std.specs.List.{filter_map}
 use Rattle.std.proofs.lemmas.Bool.{false≢true, or_left, false_from_ne_true, cond-false}
 use Rattle.wt_env.specs.declared.types.VMSharedTypeIndex.{VMSharedTypeIndex}
-use Rattle.wt_env.specs.declared.types.EngineOrModuleTypeIndex.{EngineOrModuleTypeIndex}
-use Rattle.wt_env.specs.declared.types.EngineOrModuleTypeIndex.TheVariants as index
-use Rattle.wt_env.specs.declared.types.Kind.{Kind}
 use Rattle.wt_env.specs.declared.types.WasmSubType.{WasmSubType}
-use Rattle.wt_tree.specs.Tree.{Description, Tree, group, none, close}
+use Rattle.wt_tree.specs.Tree.{Description, Tree, ClosedTree, group, none, close}
 use Rattle.wt_tree.specs.Trampoline.{other_trampoline}
 use Rattle.wt_tree.proofs.Closing.{close-agree}
 use Rattle.wt_model.specs.Registered.{RegisteredGroup}
 use Rattle.wt_env.specs.Among.{Among}
-use Rattle.wt_model.specs.NamedTypes.{HasPlace, HasKind, NamesKind, NamesTypes, NameTypes}
+use Rattle.wt_model.specs.NamedTypes.{HasPlace, NamesTypes, NameTypes}
 use Rattle.wt_model.specs.Trampolines.{TellsTrampoline, TellTrampolines, HaveTrampolines}
 use Rattle.wt_model.specs.Trees.{with_tree, trees_from, trees}
-use Rattle.wt_model.specs.Indices.{place_in, located_here, locate}
-use Rattle.wt_model.specs.Sound.{IsRising, OneIndexPerTree, NamesOlder, IsLocated, AreIndexed, AreBelow}
+use Rattle.wt_model.specs.Indices.{place_in, located_here, locate, closed_tree}
+use Rattle.wt_model.specs.Sound.{IsRising, OneIndexPerTree, NamesOlder, IsLocated, AreIndexed, AreBelow, KeepRules}
 use Rattle.wt_model.specs.Reach.{edges, leads_to, Reach, here, further}
 use Rattle.wt_model.specs.Removal.{is_reached, kept_made}
 use Rattle.wt_env.proofs.lists.Filtered.{among_filter, filter_among}
 use Rattle.wt_env.proofs.lists.Mapped.{among_mapped}
-use Rattle.wt_env.proofs.lists.Members.{get_among, among_before, among_behind, some_same}
+use Rattle.wt_env.proofs.lists.Members.{among_before, among_behind, some_same}
 use Rattle.wt_model.proofs.holds.Leads.{reach_wider}
+use Rattle.wt_model.proofs.indices.Places.{locate-at}
+use Rattle.wt_model.proofs.trees.KnownTrees.{closed_tree-located}
 
 -- what a group that passes leads to passes
 abbrev pub KeepsLed : (ℕ → Bool) → List RegisteredGroup → Type 0
@@ -170,23 +169,12 @@ below-kept keep made bound below a i at there = below a i (among-kept keep made 
 has_place-kept : (keep : ℕ → Bool) (made : List RegisteredGroup) (at : ℕ × ℕ) → keep at.0 ≡ true → HasPlace made at → HasPlace (kept_made keep made) at
 has_place-kept keep made at passes has = (has.0, kept-among keep made has.0 has.1 (ap keep has.2 ∙ passes), has.2, has.3)
 
-has_kind-kept : (keep : ℕ → Bool) (made : List RegisteredGroup) (at : ℕ × ℕ) (wanted : Kind) → keep at.0 ≡ true → HasKind made at wanted → HasKind (kept_made keep made) at wanted
-has_kind-kept keep made at wanted passes has = (has.0, kept-among keep made has.0 has.1 (ap keep has.2 ∙ passes), has.2, has.3)
-
-names_kind-kept : (keep : ℕ → Bool) (made : List RegisteredGroup) (described : Description) (wanted : Kind) (i : EngineOrModuleTypeIndex) → ((at : ℕ × ℕ) → Among at described.outer → keep at.0 ≡ true)
-    → NamesKind made described wanted i → NamesKind (kept_made keep made) described wanted i
-names_kind-kept keep made described wanted (index.Engine i) passes names = names
-names_kind-kept keep made described wanted (index.Module n) passes names =
-    (names.0, names.1, has_kind-kept keep made names.0 wanted (passes names.0 (get_among described.outer n.0 names.0 names.1)) names.2)
-names_kind-kept keep made described wanted (index.RecGroup k) passes names = names
-
 -- a group whose references are to groups that are kept names types still
 pub names_types-kept : (keep : ℕ → Bool) (made : List RegisteredGroup) (described : Description) → ((at : ℕ × ℕ) → Among at described.outer → keep at.0 ≡ true)
     → NamesTypes made described → NamesTypes (kept_made keep made) described
 names_types-kept keep made described passes names = record {
   outer = λ at there. has_place-kept keep made at (passes at there) (names.outer at there);
-  own = names.own;
-  kinds = λ ty wanted i at there. names_kind-kept keep made described wanted i passes (names.kinds ty wanted i at there);
+  slots = names.slots;
   supertypes = names.supertypes;
 }
 
@@ -194,6 +182,24 @@ pub name_types-kept : (keep : ℕ → Bool) (made : List RegisteredGroup) → Ke
 name_types-kept keep made named name a at =
     let stays = among-kept keep made a at in
     names_types-kept keep made a.description (λ reference there. named a reference stays.0 stays.1 there) (name a stays.0)
+
+-- ---- rules
+
+-- a type that is kept has the closed tree that it had
+pub closed_tree-kept : (keep : ℕ → Bool) (made : List RegisteredGroup) → KeepsNamed keep made → IsLocated made → (i : VMSharedTypeIndex) (t : ClosedTree)
+    → closed_tree (kept_made keep made) i ≡ Some t → closed_tree made i ≡ Some t
+closed_tree-kept keep made named located i t is =
+    let found = closed_tree-located (kept_made keep made) i t is in
+    let here = locate-at (kept_made keep made) i found.0 found.1 in
+    let stays = among-kept keep made here.group here.among in
+    let there : locate made i ≡ Some (here.group.number, (found.0).1) = located here.group (found.0).1 i stays.0 here.place in
+    let tree : trees (kept_made keep made) (found.0).0 ≡ trees made here.group.number = ap (trees (kept_made keep made)) (sym here.number) ∙ trees-kept keep made here.group.number named stays.1 in
+    ap (option_map (λ (at : ℕ × ℕ). record { tree = trees made at.0; place = at.1 })) there
+    ∙ (λ k. Some (record { tree = sym tree k; place = (found.0).1 }))
+    ∙ ap Some (sym found.2)
+
+pub rules-kept : (keep : ℕ → Bool) (made : List RegisteredGroup) → KeepsNamed keep made → IsLocated made → KeepRules made → KeepRules (kept_made keep made)
+rules-kept keep made named located rules i t is = rules i t (closed_tree-kept keep made named located i t is)
 
 -- ---- trampolines
 

@@ -1,23 +1,21 @@
 -- Each type index that stands in a member of a registered group names a type that has an index, and is shown as it.
-use Rattle.std.proofs.Common.{◌≡◌, ◌⊎◌, inl, inr, ℕ, zero, suc, ◌<◌, true, nat_lt, if◌then◌else◌, List, [], ◌∷◌, length, map, slice_get, Option, Some, None, option_map, unwrap_or, refl, sym, ap, subst, ◌∙◌, arith}
+use Rattle.std.proofs.Common.{◌≡◌, ℕ, zero, suc, ◌<◌, true, nat_lt, if◌then◌else◌, List, [], ◌∷◌, length, map, slice_get, Option, Some, option_map, unwrap_or, refl, sym, ap, ◌∙◌, arith}
 use Rattle.std.specs.List.{filter_map}
-use Rattle.std.specs.Prelude.{option_to_list}
 use Rattle.wt_env.specs.Among.{Among}
-use Rattle.wt_env.specs.declared.types.Kind.{Kind}
 use Rattle.wt_env.specs.declared.types.VMSharedTypeIndex.{VMSharedTypeIndex}
 use Rattle.wt_env.specs.declared.types.EngineOrModuleTypeIndex.{EngineOrModuleTypeIndex}
 use Rattle.wt_env.specs.declared.types.EngineOrModuleTypeIndex.TheVariants as index
 use Rattle.wt_env.specs.declared.types.WasmSubType.{WasmSubType}
-use Rattle.wt_env.proofs.lists.Mapped.{among_map, among_mapped}
-use Rattle.wt_env.proofs.lists.Members.{get_among, among_before, among_either}
+use Rattle.wt_env.proofs.lists.Mapped.{among_mapped}
+use Rattle.wt_env.proofs.lists.Members.{get_among, among_before}
 use Rattle.wt_tree.specs.Tree.{Tree, Description, ClosedTree, no_tree, close}
-use Rattle.wt_tree.specs.Kinds.{kinded_refs, indices_of, type_indices}
+use Rattle.wt_tree.specs.Kinds.{type_indices}
 use Rattle.wt_tree.specs.Subtyping.{tree_at}
 use Rattle.wt_tree.proofs.Slots.{outer_at-closed}
 use Rattle.wt_model.specs.Registered.{RegisteredGroup, Registry}
 use Rattle.wt_model.specs.Trees.{trees}
 use Rattle.wt_model.specs.Indices.{locate, closed_tree}
-use Rattle.wt_model.specs.NamedTypes.{HasPlace, NamesKind, NamesEarlier, NamesTypes, NameTypes}
+use Rattle.wt_model.specs.NamedTypes.{HasPlace, NamesSlot, NamesTypes, NameTypes}
 use Rattle.wt_model.specs.Shown.{index_at, shown_index}
 use Rattle.wt_model.specs.Sound.{IsRising, OneIndexPerTree, NamesOlder, IsLocated, AreIndexed, IsSound}
 use Rattle.wt_model.proofs.indices.ShownPlaces.{index_at-located}
@@ -49,40 +47,10 @@ get_within [] k below = absurd (omega (arith, below))
 get_within (x ∷ xs) zero below = (x, refl)
 get_within (x ∷ xs) (suc k) below = get_within xs k (omega (arith, below))
 
--- a numbered slot that there is, or a member of the group
-abbrev pub NamesSlot : Description → EngineOrModuleTypeIndex → Type 0
-NamesSlot described (index.Engine i) = ⊥
-NamesSlot described (index.Module n) = (at : ℕ × ℕ) × (slice_get described.outer n.0 ≡ Some at)
-NamesSlot described (index.RecGroup k) = k < length described.members
-
 -- each type index of a member, its supertype included
 pub slot-named : (made : List RegisteredGroup) (described : Description) (place : ℕ) (ty : WasmSubType) (x : EngineOrModuleTypeIndex) → NamesTypes made described
     → slice_get described.members place ≡ Some ty → Among x (type_indices ty) → NamesSlot described x
-slot-named made described place ty x names is at = by x at (among_either (option_to_list ty.supertype) (indices_of (kinded_refs ty)) x at)
-  where
-    among : Among ty described.members
-    among = get_among described.members place ty is
-
-    kinded : (i : EngineOrModuleTypeIndex) → Among i (indices_of (kinded_refs ty)) → (wanted : Kind) × NamesKind made described wanted i
-    kinded i there =
-        let found = among_map (λ (r : Kind × EngineOrModuleTypeIndex). r.1) (kinded_refs ty) i there in
-        let reference = subst (λ (j : EngineOrModuleTypeIndex). Among ((found.0).0, j) (kinded_refs ty)) (sym found.2) found.1 in
-        ((found.0).0, names.kinds ty (found.0).0 i among reference)
-
-    earlier : (i : EngineOrModuleTypeIndex) → Among i (option_to_list ty.supertype) → NamesEarlier described place i
-    earlier i there = declared ty.supertype refl there
-      where
-        declared : (s : Option EngineOrModuleTypeIndex) → ty.supertype ≡ s → Among i (option_to_list s) → NamesEarlier described place i
-        declared None e none = absurd none
-        declared (Some j) e (inl same) = names.supertypes place ty i is (e ∙ ap Some (sym same))
-        declared (Some j) e (inr none) = absurd none
-
-    by : (i : EngineOrModuleTypeIndex) → Among i (type_indices ty) → Among i (option_to_list ty.supertype) ⊎ Among i (indices_of (kinded_refs ty)) → NamesSlot described i
-    by (index.Engine i) there (inl super) = earlier (index.Engine i) super
-    by (index.Engine i) there (inr shape) = (kinded (index.Engine i) shape).1
-    by (index.Module n) there (inl super) = earlier (index.Module n) super
-    by (index.Module n) there (inr shape) = let found = (kinded (index.Module n) shape).1 in (found.0, found.1)
-    by (index.RecGroup k) there either = names.own ty k among there
+slot-named made described place ty x names is at = names.slots ty x (get_among described.members place ty is) at
 
 -- ---- what it names
 

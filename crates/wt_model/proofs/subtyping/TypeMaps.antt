@@ -18,7 +18,9 @@ use Rattle.wt_model.specs.Trees.{trees}
 use Rattle.wt_model.specs.Indices.{locate, closed_tree}
 use Rattle.wt_model.specs.NamedTypes.{NamesEarlier}
 use Rattle.wt_model.specs.Subtyping.{is_subtype_index}
-use Rattle.wt_model.specs.Sound.{IsSound}
+use Rattle.wt_model.specs.Sound.{KeepRules, IsSound}
+use Rattle.wt_rules.proofs.KeptRules.{fits-kept}
+use Rattle.wt_tree.specs.Fit.{StepsFit}
 use Rattle.wt_model.proofs.indices.Places.{locate-at}
 use Rattle.wt_model.proofs.trees.KnownTrees.{closed_tree-located, closed-located}
 use Rattle.wt_model.proofs.trees.OneTree.{one_type}
@@ -105,3 +107,10 @@ sound-steps registry sound i j told is s t first second =
       λ h. exact.0 (sym value ∙ h),
       λ steps. value ∙ exact.1 steps,
     )
+
+-- the shape of each registered type matches that of its declared supertype
+pub rules-fit : (made : List RegisteredGroup) → KeepRules made → StepsFit (closed_tree made)
+rules-fit made rules i t s is declared = fits-kept t s (rules i t is) declared
+
+pub sound-fit : (registry : Registry) → IsSound registry → StepsFit (closed_tree registry.made)
+sound-fit registry sound = rules-fit registry.made sound.rules
