@@ -74,7 +74,7 @@ indexed entries top keys a at =
     ∙ sym (length-number_group entry.hash_consing_key.types) ∙ ap (λ (m : RegisteredGroup). length m.description.members) (sym same)
 
 -- a new entry refers to older groups, since it refers to registered ones; where its key names types, it does
-pub is_key-new : (entries : List RecGroupEntry) (top : ℕ) (entry : RecGroupEntry) → AreKeys entries top → entry.number ≡ top + 1 → ResolvesTo (made_by entries) entry.hash_consing_key.types entry.outer → length entry.shared_type_indices ≡ length entry.hash_consing_key.types → KeyNamesTypes (made_by entries) entry.hash_consing_key.types
+pub is_key-new : (entries : List RecGroupEntry) (top : ℕ) (entry : RecGroupEntry) → AreKeys entries top → entry.number ≡ top + 1 → ResolvesTo (made_by entries) entry.hash_consing_key.types entry.outer → length entry.shared_type_indices ≡ length entry.hash_consing_key.types → KeyNamesTypes entry.hash_consing_key.types
     → TellTrampolines (made_by entries) (number_group entry.hash_consing_key.types) entry.trampolines → IsKey (made_by entries) entry
 is_key-new entries top entry keys next names members name_types tell = record {
   names = names;

@@ -1,9 +1,11 @@
 -- The sub type that an index shows: there is one exactly where the index is located, and it stands at the
 -- index's place in what the entry shows.
-use Rattle.std.proofs.Common.{◌≡◌, ℕ, zero, suc, ◌+◌, ◌<◌, true, List, [], ◌∷◌, length, slice_get, get_or, drop, Option, Some, None, is_some, inl, inr, refl, sym, ap, ◌∙◌, arith, ◌==◌}
-use Rattle.std.proofs.lemmas.List.{drop_more, length-map}
-use Rattle.std.proofs.lemmas.Option.{slice_get_read}
+use Rattle.std.proofs.Common.{◌≡◌, ℕ, zero, suc, ◌<◌, true, List, [], ◌∷◌, length, slice_get, if◌then◌else◌, Option, Some, None, is_some, inl, inr, refl, sym, ap, ◌∙◌, arith, ◌==◌}
+use Rattle.std.specs.List.{find}
+use Rattle.std.specs.Option.{option_and_then}
+use Rattle.std.proofs.lemmas.List.{length-map}
 use Rattle.wt_env.specs.declared.types.VMSharedTypeIndex.{VMSharedTypeIndex}
+use Rattle.wt_env.specs.declared.types.WasmSubType.{WasmSubType}
 use Rattle.wt_tree.specs.MapRefs.{map_sub_refs}
 use Rattle.wt_tree.proofs.Numbering.{length-number_group}
 use Rattle.wt_keys.specs.declared.entry.RecGroupEntry.{RecGroupEntry}
@@ -15,20 +17,33 @@ use Rattle.wt_keys.specs.Keys.{AreKeys}
 use Rattle.wt_model.specs.Shown.{shown_index, shown, member_here, shown_at, sub_type_at}
 use Rattle.wt_keys.specs.Keys.{AreShown}
 use Rattle.wt_env.proofs.lists.Found.{found_within}
-use Rattle.wt_env.proofs.lists.Members.{get_among}
 use Rattle.wt_keys.proofs.ShownIndices.{shown-key}
 
+-- what the entry that was found shows
+abbrev pub shown_in : VMSharedTypeIndex → Option RecGroupEntry → Option WasmSubType
+shown_in i None = None
+shown_in i (Some entry) = option_and_then (slice_get entry.runtime_types) (place_in i entry.shared_type_indices)
+
+shown-among : (all : List RecGroupEntry) (top : ℕ) → AreKeys all top → AreShown all → (i : VMSharedTypeIndex) (entries : List RecGroupEntry) → ((e : RecGroupEntry) → Among e entries → Among e all)
+    → shown_at (made_by all) (made_by entries) i ≡ shown_in i (find (λ entry. is_some (place_in i entry.shared_type_indices)) entries)
+shown-among all top keys are_shown i [] among = refl
+shown-among all top keys are_shown i (e ∷ entries) among =
+    by (place_in i e.shared_type_indices) refl (shown-among all top keys are_shown i entries (λ x at. among x (inr at)))
+  where
+    same : shown (made_by all) (made_of e) ≡ e.runtime_types
+    same = shown-key all top e keys (among e (inl refl)) ∙ sym (are_shown e (among e (inl refl)))
+
+    by : (place : Option ℕ) → place_in i e.shared_type_indices ≡ place
+        → shown_at (made_by all) (made_by entries) i ≡ shown_in i (find (λ entry. is_some (place_in i entry.shared_type_indices)) entries)
+        → member_here place (shown (made_by all) (made_of e)) (shown_at (made_by all) (made_by entries) i)
+        ≡ shown_in i (if is_some place then Some e else find (λ entry. is_some (place_in i entry.shared_type_indices)) entries)
+    by (Some place) at later = ap (λ (ts : List WasmSubType). slice_get ts place) same ∙ sym (ap (option_and_then (slice_get e.runtime_types)) at)
+    by None at later = later
+
 -- the entry that has the index shows the type at its place
-pub shown_at-entry : (entries : List RecGroupEntry) (top n : ℕ) (entry : RecGroupEntry) (i : VMSharedTypeIndex) (place : ℕ) → AreKeys entries top → AreShown entries
-    → n < length entries → entry ≡ get_or entries n entry → place_in i entry.shared_type_indices ≡ Some place
-    → shown_at (made_by entries) (made_by (drop n entries)) i ≡ slice_get entry.runtime_types place
-shown_at-entry entries top n entry i place keys are_shown below is at =
-    let made = made_by entries in
-    let among : Among entry entries = get_among entries n entry (slice_get_read entries (length entries) n entry refl below is) in
-    ap (λ es. shown_at made (made_by es) i) (drop_more entries n entry below)
-    ∙ ap (λ e. shown_at made (made_by (e ∷ drop (n + 1) entries)) i) (sym is)
-    ∙ ap (λ o. member_here o (shown made (made_of entry)) (shown_at made (made_by (drop (n + 1) entries)) i)) at
-    ∙ ap (λ ts. slice_get ts place) (shown-key entries top entry keys among ∙ sym (are_shown entry among))
+pub shown-found : (entries : List RecGroupEntry) (top : ℕ) → AreKeys entries top → AreShown entries → (i : VMSharedTypeIndex)
+    → sub_type_at (made_by entries) i ≡ shown_in i (find (λ entry. is_some (place_in i entry.shared_type_indices)) entries)
+shown-found entries top keys are_shown i = shown-among entries top keys are_shown i entries (λ e at. at)
 
 is_some-within : {A : Type 0} (xs : List A) (k : ℕ) → k < length xs → is_some (slice_get xs k) ≡ true
 is_some-within [] k below = absurd (omega (arith, below))

@@ -1,5 +1,6 @@
 pub mod AddedKeys
 pub mod Borrowed
+pub mod Joined
 pub mod KeyTrees
 pub mod KeyTrampolines
 pub mod NamedByKeys

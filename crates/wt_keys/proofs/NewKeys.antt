@@ -17,7 +17,7 @@ use Rattle.wt_keys.proofs.KeyTrees.{describe-named}
 use Rattle.wt_keys.proofs.KeyTrampolines.{told-numbers}
 
 module _ (entries : List RecGroupEntry) (top : ℕ) (entry : RecGroupEntry) (number : entry.number ≡ top + 1) (names : ResolvesTo (made_by entries) entry.hash_consing_key.types entry.outer) (keys : AreKeys entries top) (tell : TellTrampolines (made_by entries) (number_group entry.hash_consing_key.types) entry.trampolines) (indices : entry.shared_type_indices ≡ assign_shared_type_indices (length entry.hash_consing_key.types) (used (made_by entries))) where
-  pub new_key : KeyNamesTypes (made_by entries) entry.hash_consing_key.types → find (λ e. rec_group_eq e.hash_consing_key entry.hash_consing_key) entries ≡ None → IsNewKey entries top entry
+  pub new_key : KeyNamesTypes entry.hash_consing_key.types → find (λ e. rec_group_eq e.hash_consing_key entry.hash_consing_key) entries ≡ None → IsNewKey entries top entry
   new_key name_types new =
       let n = length entry.hash_consing_key.types in
       let numbers = used (made_by entries) in

@@ -2,19 +2,18 @@
 use Rattle.std.specs.Prelude.{◌≡◌, ℕ, ◌+◌, ◌<◌, List, length, map, slice_get, Option, Some, None, option_map, unwrap_or}
 use Rattle.std.specs.List.{find}
 use Rattle.wt_env.specs.Equality.{rec_group_eq}
-use Rattle.wt_env.specs.declared.types.Kind.{Kind}
 use Rattle.wt_env.specs.declared.types.VMSharedTypeIndex.{VMSharedTypeIndex}
 use Rattle.wt_env.specs.declared.types.EngineOrModuleTypeIndex.{EngineOrModuleTypeIndex}
 use Rattle.wt_env.specs.declared.types.EngineOrModuleTypeIndex.TheVariants as index
 use Rattle.wt_env.specs.declared.types.WasmSubType.{WasmSubType}
 use Rattle.wt_tree.specs.References.{group_refs}
 use Rattle.wt_tree.specs.MapRefs.{map_group_refs}
-use Rattle.wt_tree.specs.Kinds.{kinded_refs, type_indices}
+use Rattle.wt_tree.specs.Kinds.{type_indices}
 use Rattle.wt_keys.specs.declared.entry.RecGroupEntry.{RecGroupEntry}
 use Rattle.wt_model.specs.Registered.{RegisteredGroup}
 use Rattle.wt_env.specs.Among.{Among}
 use Rattle.wt_model.specs.Trees.{trees}
-use Rattle.wt_model.specs.NamedTypes.{kind_at, HasKind, NamesTypes}
+use Rattle.wt_model.specs.NamedTypes.{NamesTypes}
 use Rattle.wt_model.specs.Trampolines.{TellTrampolines}
 use Rattle.wt_model.specs.Indices.{locate, used, AreUnused, AreDistinct}
 use Rattle.wt_model.specs.Sound.{IsRising, IsLocated}
@@ -30,11 +29,11 @@ named_at made (index.RecGroup k) = None
 abbrev pub ResolvesTo : List RegisteredGroup → List WasmSubType → List (ℕ × ℕ) → Type 0
 ResolvesTo made types outer = map (named_at made) (group_refs types) ≡ map Some outer
 
--- an index in a key names a type of this kind: a registered type, or a member of the key
-abbrev pub KeyNamesKind : List RegisteredGroup → List WasmSubType → Kind → EngineOrModuleTypeIndex → Type 0
-KeyNamesKind made types wanted (index.Engine i) = (at : ℕ × ℕ) × (locate made i ≡ Some at) × HasKind made at wanted
-KeyNamesKind made types wanted (index.Module n) = ⊥
-KeyNamesKind made types wanted (index.RecGroup k) = kind_at types k ≡ Some wanted
+-- a type index in a key: a registered type, or a member of the key
+abbrev pub KeyNamesSlot : List WasmSubType → EngineOrModuleTypeIndex → Type 0
+KeyNamesSlot types (index.Engine i) = Unit {0}
+KeyNamesSlot types (index.Module n) = ⊥
+KeyNamesSlot types (index.RecGroup k) = k < length types
 
 -- the supertype of the member at this place names a type before it: a registered one, or an earlier member of the key
 abbrev pub KeyNamesEarlier : ℕ → EngineOrModuleTypeIndex → Type 0
@@ -42,16 +41,15 @@ KeyNamesEarlier place (index.Engine i) = Unit {0}
 KeyNamesEarlier place (index.Module n) = ⊥
 KeyNamesEarlier place (index.RecGroup k) = k < place
 
--- The types of a key have each place of their own that stands in them, supertypes included, each reference names a
--- type of the kind that it says, and each supertype a type before the one that declares it.
-pub record KeyNamesTypes (made : List RegisteredGroup) (types : List WasmSubType) : Type 0 where
-  pub own : (ty : WasmSubType) (k : ℕ) → Among ty types → Among (index.RecGroup k) (type_indices ty) → k < length types
-  pub kinds : (ty : WasmSubType) (wanted : Kind) (i : EngineOrModuleTypeIndex) → Among ty types → Among (wanted, i) (kinded_refs ty) → KeyNamesKind made types wanted i
+-- Each type index in the types of a key, supertypes included, is a registered type or a member of the key, and each
+-- supertype is before the type that declares it.
+pub record KeyNamesTypes (types : List WasmSubType) : Type 0 where
+  pub slots : (ty : WasmSubType) (i : EngineOrModuleTypeIndex) → Among ty types → Among i (type_indices ty) → KeyNamesSlot types i
   pub supertypes : (place : ℕ) (ty : WasmSubType) (i : EngineOrModuleTypeIndex) → slice_get types place ≡ Some ty → ty.supertype ≡ Some i → KeyNamesEarlier place i
 
 -- What is true of one entry among those that are registered: its references that leave are indices of
 -- registered types, which outer tells, of older groups; it has one index for each member; what stands in it names
--- types of the kinds that are said; and the trampolines of its members are told, which are older groups too.
+-- types; and the trampolines of its members are told, which are older groups too.
 pub record IsKey (made : List RegisteredGroup) (entry : RecGroupEntry) : Type 0 where
   pub names : ResolvesTo made entry.hash_consing_key.types entry.outer
   pub older : (reference : ℕ × ℕ) → Among reference entry.outer → reference.0 < entry.number

@@ -1,6 +1,6 @@
 //! The plain searches of the registered groups: each looks at one after another.
 
-ghost use Rattle.std.specs.Prelude.{◌≡◌, ℕ, ◌^◌, ◌<◌, [], ◌∷◌, ◌++◌, length, false, IfOk, OnErr, ◌==◌, position, map, option_map, option_and_then, slice_get, unwrap_or, Some};
+ghost use Rattle.std.specs.Prelude.{◌≡◌, ℕ, ◌^◌, ◌<◌, [], ◌∷◌, ◌++◌, length, false, IfOk, OnErr, ◌==◌, position, map, option_map, option_and_then, slice_get, unwrap_or, Some, is_some};
 ghost use Rattle.std.specs.List.{find, list_any, AllByRecursion};
 ghost use Rattle.std.specs.Option.{option_copied};
 ghost use Rattle.wt_env.specs.Among.{Among};
@@ -63,18 +63,60 @@ pub fn place_of(indices: &[VMSharedTypeIndex], index: VMSharedTypeIndex) -> Opti
     position_of(indices, index)
 }
 
+/// Whether one of the entry's types has this index.
+fn has_index(entry: &RecGroupEntry, index: VMSharedTypeIndex) -> bool
+    ensures { result ≡ is_some (place_in index entry.now.shared_type_indices) }
+{
+    place_of(entry.shared_type_indices.as_slice(), index).is_some()
+}
+
+/// The entry of the type that has this index.
+fn entry_of(entries: &[RecGroupEntry], index: VMSharedTypeIndex) -> Option<&RecGroupEntry>
+    ensures { option_copied result ≡ find (λ entry. is_some (place_in index entry.shared_type_indices)) entries.now }
+{
+    entries.iter().find(|entry| has_index(entry, index))
+}
+
+/// The entry of the type that has this index, in one list or behind it in another.
+fn joined_entry<'a>(
+    entries: &'a [RecGroupEntry],
+    added: &'a [RecGroupEntry],
+    index: VMSharedTypeIndex,
+) -> Option<&'a RecGroupEntry>
+    ensures { option_copied result ≡ find (λ entry. is_some (place_in index entry.shared_type_indices)) (entries.now ++ added.now) }
+{
+    match entry_of(entries, index) {
+        Some(entry) => Some(entry),
+        None => entry_of(added, index),
+    }
+}
+
+/// The sub type that has this index, in one list of entries or behind it in another.
+pub fn borrow_joined<'a>(
+    entries: &'a [RecGroupEntry],
+    added: &'a [RecGroupEntry],
+    index: VMSharedTypeIndex,
+) -> Option<&'a WasmSubType>
+    requires keys { (top : ℕ) × AreKeys (entries.now ++ added.now) top }
+    requires shown { AreShown (entries.now ++ added.now) }
+    ensures { option_copied result ≡ sub_type_at (made_by (entries.now ++ added.now)) index }
+{
+    let Some(entry) = joined_entry(entries, added, index) else {
+        return None;
+    };
+    match place_of(entry.shared_type_indices.as_slice(), index) {
+        Some(place) => entry.runtime_types.get(place),
+        None => None,
+    }
+}
+
 /// The sub type that has this index.
 pub fn borrow_from(entries: &[RecGroupEntry], index: VMSharedTypeIndex) -> Option<&WasmSubType>
     requires keys { (top : ℕ) × AreKeys entries.now top }
     requires shown { AreShown entries.now }
     ensures { option_copied result ≡ sub_type_at (made_by entries.now) index }
 {
-    for entry in entries {
-        if let Some(place) = place_of(entry.shared_type_indices.as_slice(), index) {
-            return entry.runtime_types.get(place);
-        }
-    }
-    None
+    borrow_joined(entries, &[], index)
 }
 
 fn index_bits(alloc: Global, indices: &[VMSharedTypeIndex]) -> Result<Seq<u32>, OutOfMemory>
