@@ -1,20 +1,16 @@
 -- Several entries that are added in turn: what is true of all entries stays true, and the trees stay as they are.
-use Rattle.std.proofs.Common.{◌≡◌, ℕ, ◌+◌, ◌<◌, ◌⊎◌, inl, inr, List, [], ◌∷◌, ◌++◌, length, Some, sym, ap, subst, ◌∙◌, arith, append_assoc}
+use Rattle.std.proofs.Common.{◌≡◌, ℕ, ◌+◌, inl, inr, List, [], ◌∷◌, ◌++◌, length, Some, sym, ap, subst, ◌∙◌, arith, append_assoc}
 use Rattle.std.proofs.lemmas.List.{map-append, append-nil, length-append}
-use Rattle.wt_env.specs.declared.types.Kind.{Kind}
 use Rattle.wt_env.specs.declared.types.VMSharedTypeIndex.{VMSharedTypeIndex}
-use Rattle.wt_env.specs.declared.types.EngineOrModuleTypeIndex.{EngineOrModuleTypeIndex}
-use Rattle.wt_env.specs.declared.types.EngineOrModuleTypeIndex.TheVariants as index
 use Rattle.wt_env.specs.declared.types.WasmSubType.{WasmSubType}
 use Rattle.wt_env.proofs.lists.Members.{among_either}
 use Rattle.wt_model.specs.Registered.{RegisteredGroup}
 use Rattle.wt_model.specs.Indices.{locate, closed_tree}
 use Rattle.wt_model.specs.Describe.{tree_of}
-use Rattle.wt_model.proofs.NamedTypes.{has_kind-before}
 use Rattle.wt_model.proofs.indices.Places.{locate-before}
 use Rattle.wt_keys.specs.declared.entry.RecGroupEntry.{RecGroupEntry}
 use Rattle.wt_keys.specs.Entries.{made_of, made_by}
-use Rattle.wt_keys.specs.Keys.{ResolvesTo, KeyNamesKind, KeyNamesTypes, AreKeys, AreShown}
+use Rattle.wt_keys.specs.Keys.{ResolvesTo, AreKeys, AreShown}
 use Rattle.wt_keys.proofs.AddedKeys.{names-before, keys-push, closed_tree-kept, tree_of-kept}
 use Rattle.wt_plan.specs.declared.plan.Plan.{Plan as PlanFields}
 use Rattle.wt_plan.specs.Planned.{AreResolved, AreNewBelow, AreNewKeys, PlansMore}
@@ -80,20 +76,6 @@ tree_of-grown entries top (entry ∷ more) keys new types outer names =
     ∙ tree_of-kept entries top entry keys new.0 types outer names
 
 -- ---- what a key names
-
-key_names_kind-before : (made more : List RegisteredGroup) (types : List WasmSubType) (wanted : Kind) (i : EngineOrModuleTypeIndex) → KeyNamesKind made types wanted i → KeyNamesKind (made ++ more) types wanted i
-key_names_kind-before made more types wanted (index.Engine i) names = (names.0, locate-before made more i names.0 names.1, has_kind-before made more names.0 wanted names.2)
-key_names_kind-before made more types wanted (index.Module n) names = names
-key_names_kind-before made more types wanted (index.RecGroup k) names = names
-
-pub key_names-grown : (entries more : List RecGroupEntry) (types : List WasmSubType) → KeyNamesTypes (made_by entries) types → KeyNamesTypes (made_by (entries ++ more)) types
-key_names-grown entries more types names = record {
-  own = names.own;
-  kinds = λ ty wanted i at there.
-      subst (λ (made : List RegisteredGroup). KeyNamesKind made types wanted i) (sym (map-append made_of entries more))
-      (key_names_kind-before (made_by entries) (made_by more) types wanted i (names.kinds ty wanted i at there));
-  supertypes = names.supertypes;
-}
 
 pub named-grown : (entries more : List RecGroupEntry) (types : List WasmSubType) → AreResolved (made_by entries) types → AreResolved (made_by (entries ++ more)) types
 named-grown entries more types named = (named.0, names-grown entries more types named.0 named.1)

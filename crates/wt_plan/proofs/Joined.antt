@@ -1,24 +1,16 @@
--- What stands and what was planned, searched as one list: what is found is found in the first, or else in the second.
-use Rattle.std.proofs.Common.{◌≡◌, ℕ, ◌==◌, Bool, true, false, ◌||◌, List, [], ◌∷◌, ◌++◌, map, Option, Some, None, refl, sym, ap, ◌∙◌}
-use Rattle.std.specs.List.{find, list_any}
+-- What stands and what was planned, searched as one list: where an index is located, and which numbers are used.
+use Rattle.std.proofs.Common.{◌≡◌, ℕ, ◌==◌, true, false, ◌||◌, List, [], ◌∷◌, ◌++◌, map, Option, Some, None, refl, sym, ap, ◌∙◌}
+use Rattle.std.specs.List.{list_any}
 use Rattle.std.specs.Option.{option_or}
 use Rattle.std.proofs.lemmas.Grind.{flat_map-append}
 use Rattle.std.proofs.lemmas.List.{map-append}
-use Rattle.std.proofs.lemmas.List.Folds.{find-append, list_any-append}
+use Rattle.std.proofs.lemmas.List.Folds.{list_any-append}
 use Rattle.wt_env.specs.declared.types.VMSharedTypeIndex.{VMSharedTypeIndex}
 use Rattle.wt_keys.specs.declared.entry.RecGroupEntry.{RecGroupEntry}
 use Rattle.wt_model.specs.Registered.{RegisteredGroup}
 use Rattle.wt_model.specs.Indices.{place_in, located_here, locate, used, is_used}
 use Rattle.wt_keys.specs.Entries.{made_of, made_by}
 use Rattle.wt_model.proofs.indices.FreeIndices.{list_any-bits}
-
--- ---- what a test finds
-
-pub find_first : {A : Type 0} (p : A → Bool) (xs ys : List A) (x : A) → Some x ≡ find p xs → Some x ≡ find p (xs ++ ys)
-find_first p xs ys x is = ap (λ found. option_or found (find p ys)) is ∙ sym (find-append p xs ys)
-
-pub find_second : {A : Type 0} (p : A → Bool) (xs ys : List A) → None ≡ find p xs → find p ys ≡ find p (xs ++ ys)
-find_second p xs ys none = ap (λ found. option_or found (find p ys)) none ∙ sym (find-append p xs ys)
 
 -- ---- where an index is located
 

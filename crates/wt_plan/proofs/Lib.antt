@@ -1,12 +1,15 @@
 pub mod Joined
 pub mod GrownKeys
 pub mod ModuleKeys
-pub mod ModuleKinds
+pub mod ModuleSlots
 pub mod HostKeys
 pub mod Named
-pub mod PlannedGroups
 pub mod Planning
 pub mod PlannedTrampolines
 pub mod Checked
 pub mod CountedEdges
 pub mod NewIndices
+pub mod PlannedTrees
+pub mod RulesKept
+pub mod CheckedGroups
+pub mod PlannedGroups

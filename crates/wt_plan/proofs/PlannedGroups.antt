@@ -1,43 +1,37 @@
 -- The groups of a module that were planned so far, and one more.
-use Rattle.std.proofs.Common.{◌≡◌, ℕ, ◌+◌, ◌⊎◌, inl, inr, true, List, [], ◌∷◌, ◌++◌, length, map, slice_get, Option, Some, refl, sym, ap, subst, ◌∙◌, append_assoc}
+use Rattle.std.proofs.Common.{◌≡◌, ℕ, zero, suc, ◌+◌, ◌-◌, ◌<◌, ◌≤◌, ◌⊎◌, inl, inr, true, List, [], ◌∷◌, ◌++◌, length, map, take, get_or, Option, Some, None, option_map, refl, sym, ap, subst, ◌∙◌, arith, append_assoc}
 use Rattle.std.specs.List.{filter_map}
-use Rattle.std.proofs.lemmas.List.{map-append, length-map, length-append, append-nil}
-use Rattle.wt_env.specs.declared.types.VMSharedTypeIndex.{VMSharedTypeIndex}
+use Rattle.std.specs.Option.{option_or}
+use Rattle.std.proofs.lemmas.List.{append-nil}
+use Rattle.wt_env.specs.Among.{Among}
 use Rattle.wt_env.specs.declared.types.EngineOrModuleTypeIndex.{EngineOrModuleTypeIndex}
 use Rattle.wt_env.specs.declared.types.WasmSubType.{WasmSubType}
 use Rattle.wt_env.specs.declared.types.WasmRecGroup.{WasmRecGroup}
-use Rattle.wt_tree.specs.Canonical.{canonical_index}
-use Rattle.wt_tree.specs.ModuleTree.{members_from, group_tree, module_trees}
-use Rattle.wt_tree.specs.MapRefs.{map_sub_refs, map_group_refs}
-use Rattle.wt_tree.specs.References.{group_refs}
-use Rattle.wt_tree.specs.Tree.{Tree, ClosedTree}
-use Rattle.wt_tree.proofs.ModuleTrees.{module_trees-more}
-use Rattle.wt_keys.specs.declared.entry.RecGroupEntry.{RecGroupEntry}
-use Rattle.wt_plan.specs.declared.plan.Plan.{Plan as PlanFields}
-use Rattle.wt_model.specs.Registered.{RegisteredGroup}
-use Rattle.wt_env.specs.Among.{Among}
-use Rattle.wt_model.specs.Indices.{locate, closed_tree}
-use Rattle.wt_model.specs.Trees.{trees}
-use Rattle.wt_model.specs.Reach.{edges}
-use Rattle.wt_model.specs.Describe.{tree_of}
-use Rattle.wt_model.proofs.Trampolines.{told-among}
-use Rattle.wt_keys.specs.Entries.{made_of, made_by}
-use Rattle.wt_keys.specs.Keys.{AreKeys}
-use Rattle.wt_keys.specs.Keys.{AreShown}
-use Rattle.wt_model.specs.Plan.{Plan, Occurs, plan_group, plan_groups}
-use Rattle.wt_plan.specs.Planned.{AreResolved, AreNewBelow, AreNewKeys, PlansOne, plan_of}
-use Rattle.wt_env.specs.declared.types.Kind.{Kind}
-use Rattle.wt_tree.specs.Kinds.{member_kind}
-use Rattle.wt_rules.specs.Rules.{total_members, kinds_of, is_module_index}
-use Rattle.wt_rules.proofs.KeptRules.{kinds_of-append, length-kinds_of, total_members-more}
 use Rattle.wt_env.proofs.lists.Mapped.{among_map, among_mapped, among_last}
-use Rattle.wt_keys.proofs.AddedKeys.{closed_tree-registered}
-use Rattle.wt_keys.proofs.KeyTrees.{tree-of_key}
 use Rattle.wt_env.proofs.lists.Members.{among_before, among_behind, among_either, among_pushed}
-use Rattle.wt_model.proofs.trees.KnownTrees.{members-named, trees-located}
-use Rattle.wt_plan.proofs.ModuleKeys.{canonical-tree}
-use Rattle.wt_plan.proofs.GrownKeys.{new_below-all, closed_tree-grown, tree_of-grown, shown-joined}
-use Rattle.wt_plan.proofs.ModuleKinds.{AreOfKinds, of_kinds-before, of_kinds-joined, of_kinds-entry}
+use Rattle.wt_tree.specs.Kinds.{type_indices}
+use Rattle.wt_tree.specs.ModuleTree.{module_trees}
+use Rattle.wt_tree.specs.Tree.{ClosedTree}
+use Rattle.wt_tree.proofs.ModuleTrees.{module_trees-more}
+use Rattle.wt_rules.specs.declared.place.Rule.{Rule}
+use Rattle.wt_rules.specs.Rules.{total_members, is_module_index, AreModuleTypes, group_trees, broken_in, placed_in, first_broken_from}
+use Rattle.wt_rules.proofs.KeptRules.{total_members-more}
+use Rattle.wt_rules.proofs.ModuleReferences.{leaving-module}
+use Rattle.wt_model.specs.Registered.{RegisteredGroup}
+use Rattle.wt_model.specs.Indices.{closed_tree}
+use Rattle.wt_model.specs.Reach.{edges}
+use Rattle.wt_model.specs.Sound.{KeepRules}
+use Rattle.wt_model.specs.Plan.{Plan, Occurs, plan_group, plan_groups}
+use Rattle.wt_model.proofs.Trampolines.{told-among}
+use Rattle.wt_keys.specs.declared.entry.RecGroupEntry.{RecGroupEntry}
+use Rattle.wt_keys.specs.Entries.{made_of, made_by}
+use Rattle.wt_keys.specs.Keys.{AreKeys, AreShown}
+use Rattle.wt_plan.specs.declared.plan.Plan.{Plan as PlanFields}
+use Rattle.wt_plan.specs.Planned.{AreNewBelow, PlansOne, key_of, plan_of, PlansGroup, AreNamed, PlansModule}
+use Rattle.wt_plan.proofs.CheckedGroups.{group-resolved, planned-count}
+use Rattle.wt_plan.proofs.GrownKeys.{new_below-all, shown-joined}
+use Rattle.wt_plan.proofs.NewIndices.{new_below-none}
+use Rattle.wt_plan.proofs.PlannedTrees.{all-named}
 use Rattle.wt_plan.proofs.Planning.{groups_of-joined}
 
 -- each new entry occurs, or one that occurs leads to it; and what occurs stands or is new
@@ -53,17 +47,13 @@ pub record Plans (entries : List RecGroupEntry) (groups : List WasmRecGroup) (fi
   pub shown : AreShown plan.added.items
   pub below : AreNewBelow entries plan.added.items
   pub occurs : EntriesOccur (entries ++ plan.added.items) plan.added.items plan.numbers.items
-  pub named : map (closed_tree (made_by (entries ++ plan.added.items))) plan.map.items ≡ map Some (module_trees [] groups)
+  pub named : AreNamed entries plan (module_trees [] groups)
   pub count : length plan.map.items ≡ total_members groups
-  pub of_kinds : AreOfKinds (made_by (entries ++ plan.added.items)) plan.map.items (kinds_of groups)
+  pub rules : KeepRules (made_by (entries ++ plan.added.items))
 
 plan_groups-more : (plan : Plan) (groups : List WasmRecGroup) (group : WasmRecGroup) → plan_groups plan (groups ++ group ∷ []) ≡ plan_group (plan_groups plan groups) group
 plan_groups-more plan [] group = refl
 plan_groups-more plan (g ∷ groups) group = plan_groups-more (plan_group plan g) groups group
-
--- the key of a module's group behind the types so far
-abbrev key_of : PlanFields → WasmRecGroup → List WasmSubType
-key_of plan group = map_group_refs (canonical_index (length plan.map.items) plan.map.items) group.types
 
 -- ---- what stands where one more was planned
 
@@ -118,112 +108,97 @@ occurs-groups entries plan occurs = record {
       (made_of found.0, subst (Among (made_of found.0)) (sym (groups_of-joined entries plan)) (among_mapped made_of (entries ++ plan.added.items) found.0 found.1), found.2);
 }
 
--- ---- the closed trees
+-- ---- one more group
 
--- the trees of the types so far, and those of the group's types
-named-joined : (made : List RegisteredGroup) (before indices : List VMSharedTypeIndex) (known : List ClosedTree) (tree : Tree) (count : ℕ)
-    → map (closed_tree made) before ≡ map Some known → ((k : ℕ) (i : VMSharedTypeIndex) → slice_get indices k ≡ Some i → closed_tree made i ≡ Some (record { tree = tree; place = k }))
-    → length indices ≡ count → map (closed_tree made) (before ++ indices) ≡ map Some (known ++ members_from tree 0 count)
-named-joined made before indices known tree count first members long =
-    map-append (closed_tree made) before indices
-    ∙ (λ i. first i ++ (members-named made tree indices members ∙ ap (λ (n : ℕ). map Some (members_from tree 0 n)) long) i)
-    ∙ sym (map-append Some known (members_from tree 0 count))
-
--- earlier trees stay where groups are added
-named-grown_all : (all : List RecGroupEntry) (top : ℕ) (more : List RecGroupEntry) (indices : List VMSharedTypeIndex) → AreKeys all top → AreNewKeys all top more → ((i : VMSharedTypeIndex) → Among i indices → (at : ℕ × ℕ) × (locate (made_by all) i ≡ Some at))
-    → map (closed_tree (made_by (all ++ more))) indices ≡ map (closed_tree (made_by all)) indices
-named-grown_all all top more [] keys new stand = refl
-named-grown_all all top more (i ∷ indices) keys new stand =
-    let here = stand i (inl refl) in
-    let first = closed_tree-grown all top more keys new i here.0 here.1 in
-    let rest = named-grown_all all top more indices keys new (λ j there. stand j (inr there)) in
-    λ k. first k ∷ rest k
-
--- as many indices as the group has types
-as_many : (entry : RecGroupEntry) (plan : PlanFields) (group : WasmRecGroup) → length entry.shared_type_indices ≡ length entry.hash_consing_key.types → entry.hash_consing_key.types ≡ key_of plan group → length entry.shared_type_indices ≡ length group.types
-as_many entry plan group members same =
-    members ∙ ap (λ (types : List WasmSubType). length types) same
-    ∙ length-map group.types (map_sub_refs (canonical_index (length plan.map.items) plan.map.items))
-
-pub plans-more : (entries : List RecGroupEntry) (groups : List WasmRecGroup) (first plan after : PlanFields) (group : WasmRecGroup)
-    → ((i : EngineOrModuleTypeIndex) → Among i (group_refs group.types) → is_module_index i ≡ true)
-    → AreResolved (made_by (entries ++ plan.added.items)) (key_of plan group)
-    → Plans entries groups first plan → PlansOne entries plan after (key_of plan group) → AreKeys (entries ++ after.added.items) after.given.numbers
-    → plan_group (plan_of entries plan) group ≡ plan_of entries after
+pub plans-more : (entries : List RecGroupEntry) (groups : List WasmRecGroup) (first plan after : PlanFields) (group : WasmRecGroup) → AreModuleTypes (group ∷ []) → Plans entries groups first plan → PlansGroup entries plan after group
     → Plans entries (groups ++ group ∷ []) first after
-plans-more entries groups first plan after group module_only named plans one keys step = record {
-  keys = keys;
+plans-more entries groups first plan after group only plans more = record {
+  keys = more.keys;
   planned =
       plan_groups-more (plan_of entries first) groups group
       ∙ ap (λ (p : Plan). plan_group p group) plans.planned
-      ∙ step;
+      ∙ more.planned;
   shown = subst AreShown (sym one.plans.added) (shown-joined plan.added.items one.more plans.shown one.plans.shown);
   below = subst (AreNewBelow entries) (sym one.plans.added) (new_below-all entries plan.added.items plan.given.numbers one.more plans.below one.plans.new);
   occurs = occurs-more entries plan after (key_of plan group) plans.occurs one;
   named =
-      ap (map (closed_tree made)) one.map
-      ∙ named-joined made plan.map.items one.entry.shared_type_indices known tree (length group.types) earlier own_trees as_many_types
+      all-named entries plan after group (λ i at. leaving-module (group ∷ []) only group i (inl refl) at) (group-resolved entries plan group known only plans.named) plans.keys one more.keys known plans.named
       ∙ ap (map Some) (sym (module_trees-more [] groups group));
   count =
-      ap length one.map
-      ∙ length-append plan.map.items one.entry.shared_type_indices
-      ∙ (λ i. plans.count i + as_many_types i)
+      planned-count entries plan after group only plans.keys one more.keys known plans.named
+      ∙ ap (λ (n : ℕ). n + length group.types) plans.count
       ∙ sym (total_members-more groups group);
-  of_kinds =
-      subst (λ (indices : List VMSharedTypeIndex). AreOfKinds made indices (kinds_of (groups ++ group ∷ []))) (sym one.map)
-      (subst (AreOfKinds made (plan.map.items ++ one.entry.shared_type_indices)) kinds
-      (of_kinds-joined made plan.map.items one.entry.shared_type_indices (kinds_of groups) (map member_kind group.types) (plans.count ∙ sym (length-kinds_of groups)) earlier_kinds own_kinds));
+  rules = more.rules;
 }
   where
-    all : List RecGroupEntry
-    all = entries ++ plan.added.items
+    one : PlansOne entries plan after (key_of plan group)
+    one = more.one
 
     known : List ClosedTree
     known = module_trees [] groups
 
-    tree : Tree
-    tree = group_tree known group.types
+-- none is planned yet
+pub plans-first : (entries : List RecGroupEntry) (first : PlanFields) → (first.added.items ≡ []) × (first.numbers.items ≡ []) × (first.map.items ≡ []) → AreKeys entries first.given.numbers → KeepRules (made_by entries)
+    → Plans entries [] first first
+plans-first entries first empty keys rules = record {
+  keys = subst (λ (es : List RecGroupEntry). AreKeys es first.given.numbers) (sym nothing) keys;
+  planned = refl;
+  shown = subst AreShown (sym empty.0) (λ e at. absurd at);
+  below = subst (AreNewBelow entries) (sym empty.0) (new_below-none entries);
+  occurs = record {
+    every = λ e at. absurd (subst (Among e) empty.0 at);
+    only = λ n at. absurd (subst (Among n) empty.1 at);
+  };
+  named = ap (map (closed_tree (made_by (entries ++ first.added.items)))) empty.2;
+  count = ap length empty.2;
+  rules = subst (λ (es : List RecGroupEntry). KeepRules (made_by es)) (sym nothing) rules;
+}
+  where
+    nothing : entries ++ first.added.items ≡ entries
+    nothing = ap (λ (added : List RecGroupEntry). entries ++ added) empty.0 ∙ append-nil entries
 
-    -- what stands then
-    made : List RegisteredGroup
-    made = made_by (entries ++ after.added.items)
+-- all of them are planned
+pub plans-module : (entries : List RecGroupEntry) (groups : List WasmRecGroup) (first plan : PlanFields) → Plans entries groups first plan → PlansModule entries first plan groups
+plans-module entries groups first plan plans = record {
+  planned = plans.planned;
+  keys = plans.keys;
+  shown = plans.shown;
+  below = plans.below;
+  occurs = occurs-groups entries plan plans.occurs;
+  named = plans.named;
+  rules = plans.rules;
+}
 
-    grown : all ++ one.more ≡ entries ++ after.added.items
-    grown = append_assoc entries plan.added.items one.more ∙ ap (λ (added : List RecGroupEntry). entries ++ added) (sym one.plans.added)
+-- ---- the rules of the groups that are left
 
-    as_many_types : length one.entry.shared_type_indices ≡ length group.types
-    as_many_types = as_many one.entry plan group (keys.keys one.entry one.stands).members one.group
+-- a group that breaks one is told with its place
+pub broken-here : (number : ℕ) (known : List ClosedTree) (group : WasmRecGroup) (rest : List WasmRecGroup) (broken : ℕ × Rule) → Some broken ≡ broken_in known group
+    → Some (placed_in number broken) ≡ first_broken_from number known (group ∷ rest)
+broken-here number known group rest broken is = ap (λ (found : Option (ℕ × Rule)). option_or (option_map (placed_in number) found) (first_broken_from (number + 1) (known ++ group_trees known group) rest)) is
 
-    earlier : map (closed_tree made) plan.map.items ≡ map Some known
-    earlier =
-        ap (λ (es : List RecGroupEntry). map (closed_tree (made_by es)) plan.map.items) (sym grown)
-        ∙ named-grown_all all plan.given.numbers one.more plan.map.items plans.keys one.plans.new (trees-located (made_by all) plan.map.items known plans.named)
-        ∙ plans.named
+-- past one that breaks none the others decide
+pub broken-later : (number : ℕ) (known : List ClosedTree) (group : WasmRecGroup) (rest : List WasmRecGroup) → None ≡ broken_in known group
+    → first_broken_from (number + 1) (known ++ group_trees known group) rest ≡ first_broken_from number known (group ∷ rest)
+broken-later number known group rest is = ap (λ (found : Option (ℕ × Rule)). option_or (option_map (placed_in number) found) (first_broken_from (number + 1) (known ++ group_trees known group) rest)) is
 
-    -- the tree of the entry is that of the module's group
-    own_tree : trees made one.entry.number ≡ tree
-    own_tree =
-        tree-of_key (entries ++ after.added.items) after.given.numbers one.entry keys one.stands
-        ∙ ap (tree_of made) one.group
-        ∙ ap (λ (es : List RecGroupEntry). tree_of (made_by es) (key_of plan group)) (sym grown)
-        ∙ tree_of-grown all plan.given.numbers one.more plans.keys one.plans.new (key_of plan group) named.0 named.1
-        ∙ canonical-tree (made_by all) plan.map.items known group.types module_only plans.named
+-- a group among those of a module
+pub only-one : (groups : List WasmRecGroup) (group : WasmRecGroup) → AreModuleTypes groups → Among group groups → AreModuleTypes (group ∷ [])
+only-one groups group only at = record {
+  by_index = λ g ty i among in_group in_type. by g ty i among in_group in_type;
+}
+  where
+    by : (g : WasmRecGroup) (ty : WasmSubType) (i : EngineOrModuleTypeIndex) → Among g (group ∷ []) → Among ty g.types → Among i (type_indices ty) → is_module_index i ≡ true
+    by g ty i (inl same) in_group in_type = only.by_index g ty i (subst (λ (x : WasmRecGroup). Among x groups) (sym same) at) in_group in_type
+    by g ty i (inr none) in_group in_type = absurd none
 
-    own_trees : (k : ℕ) (i : VMSharedTypeIndex) → slice_get one.entry.shared_type_indices k ≡ Some i → closed_tree made i ≡ Some (record { tree = tree; place = k })
-    own_trees k i is =
-        closed_tree-registered (entries ++ after.added.items) after.given.numbers one.entry k i keys one.stands is
-        ∙ ap (λ (t : Tree). Some (record { tree = t; place = k })) own_tree
-
-    earlier_kinds : AreOfKinds made plan.map.items (kinds_of groups)
-    earlier_kinds =
-        subst (λ (es : List RecGroupEntry). AreOfKinds (made_by es) plan.map.items (kinds_of groups)) grown
-        (subst (λ (groups_then : List RegisteredGroup). AreOfKinds groups_then plan.map.items (kinds_of groups)) (sym (map-append made_of all one.more))
-        (of_kinds-before (made_by all) (made_by one.more) plan.map.items (kinds_of groups) plans.of_kinds))
-
-    own_kinds : AreOfKinds made one.entry.shared_type_indices (map member_kind group.types)
-    own_kinds =
-        of_kinds-entry made one.entry (canonical_index (length plan.map.items) plan.map.items) group.types keys.located
-        (among_mapped made_of (entries ++ after.added.items) one.entry one.stands) one.group
-
-    kinds : kinds_of groups ++ map member_kind group.types ≡ kinds_of (groups ++ group ∷ [])
-    kinds = ap (λ (more : List Kind). kinds_of groups ++ more) (sym (append-nil (map member_kind group.types))) ∙ sym (kinds_of-append groups (group ∷ []))
+-- the types of a group are within those of the module
+pub count-within : (groups : List WasmRecGroup) (n : ℕ) (group : WasmRecGroup) (count bound : ℕ) → n < length groups → group ≡ get_or groups n group → count ≡ total_members (take n groups) → total_members groups < bound
+    → count + length group.types < bound
+count-within [] n group count bound within is so_far few = absurd (omega (arith, within))
+count-within (g ∷ groups) zero group count bound within is so_far few =
+    let here = ap (λ (x : WasmRecGroup). length x.types) is in
+    omega (arith, here, so_far, few)
+count-within (g ∷ groups) (suc n) group count bound within is so_far few =
+    let past : length g.types ≤ count = omega (arith, so_far) in
+    let rest = count-within groups n group (count - length g.types) (bound - length g.types) (omega (arith, within)) is (omega (arith, so_far, past)) (omega (arith, few)) in
+    omega (arith, rest, past)

@@ -13,7 +13,7 @@ use Rattle.wt_tree.specs.References.{number_group, group_refs}
 use Rattle.wt_tree.specs.Tree.{Tree, Description, close}
 use Rattle.wt_tree.specs.Trampoline.{trampoline_tree, trampoline_alone, is_own_trampoline, other_trampoline}
 use Rattle.wt_tree.proofs.Plain.{group_refs-own, number_group-own}
-use Rattle.wt_tree.proofs.Trampolines.{other-no_other}
+use Rattle.wt_tree.proofs.Trampolines.{other-no_other, other-own}
 use Rattle.wt_model.specs.Registered.{RegisteredGroup}
 use Rattle.wt_model.specs.Trees.{trees}
 use Rattle.wt_model.specs.Describe.{located, describe, tree_of, find_tree}
@@ -25,8 +25,8 @@ use Rattle.wt_keys.specs.Entries.{made_of, made_by}
 use Rattle.wt_keys.specs.Keys.{named_at, ResolvesTo, AreKeys}
 use Rattle.wt_keys.proofs.KeyTrees.{find_tree-by_key}
 use Rattle.wt_plan.specs.declared.plan.Plan.{Plan as PlanFields}
-use Rattle.wt_plan.specs.Planned.{plan_of, PlansMore, PlansAlone, PlansTold, PlansTrampolines, PlansOne}
-use Rattle.wt_plan.proofs.Joined.{find_second}
+use Rattle.wt_plan.specs.Planned.{plan_of, PlansMore, PlansAlone, PlansTold, PlansTrampolines, IsAlone, PlansOne}
+use Rattle.wt_keys.proofs.Joined.{find_second}
 use Rattle.wt_plan.proofs.GrownKeys.{plans-none, plans-joined}
 use Rattle.wt_plan.proofs.Planning.{groups_of-joined, IsNext, given_with, added-new}
 
@@ -42,7 +42,7 @@ own-described made member own =
     let references = group_refs-own member own in
     λ i. record { members = members i; outer = map (located made) (references i) }
 
-own-tree : (made : List RegisteredGroup) (member : WasmSubType) → is_own_trampoline member ≡ true → tree_of made (member ∷ []) ≡ trampoline_tree member
+pub own-tree : (made : List RegisteredGroup) (member : WasmSubType) → is_own_trampoline member ≡ true → tree_of made (member ∷ []) ≡ trampoline_tree member
 own-tree made member own = ap (close (trees made)) (own-described made member own)
 
 -- an entry whose key it is
@@ -272,8 +272,16 @@ new-led entries before middle after types told entry so_far last key_is same num
   more = so_far.more ++ entry ∷ [];
   plans = plans-joined entries before middle after so_far.more (entry ∷ []) so_far.plans last;
   led = λ e at. by e (among_either so_far.more (entry ∷ []) e at);
+  alone = λ e at. own e (among_either so_far.more (entry ∷ []) e at);
 }
   where
+    own : (e : RecGroupEntry) → Among e so_far.more ⊎ Among e (entry ∷ []) → (e ≡ entry) ⊎ IsAlone e
+    own e (inl at) =
+        let told = so_far.led e at in
+        inr (told.2, other-own told.1 told.2 told.4, told.5)
+    own e (inr (inl is)) = inl is
+    own e (inr (inr none)) = absurd none
+
     by : (e : RecGroupEntry) → Among e so_far.more ⊎ Among e (entry ∷ []) → (e.number ≡ entry.number) ⊎ Among (Some e.number) entry.trampolines
     by e (inl at) = inr (subst (Among (Some e.number)) (sym same) (so_far.led e at).0)
     by e (inr (inl is)) = inl (ap (λ (x : RecGroupEntry). x.number) is)

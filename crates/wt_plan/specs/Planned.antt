@@ -1,13 +1,19 @@
 -- The plan that the fields of one stand for.
-use Rattle.std.specs.Prelude.{◌≡◌, ℕ, ◌+◌, ◌<◌, ◌⊎◌, List, [], ◌∷◌, ◌++◌, length, Option, Some}
+use Rattle.std.specs.Prelude.{◌≡◌, ℕ, ◌+◌, ◌<◌, ◌⊎◌, List, [], ◌∷◌, ◌++◌, length, map, Option, Some, true}
 use Rattle.wt_env.specs.Among.{Among}
 use Rattle.wt_env.specs.declared.types.VMSharedTypeIndex.{VMSharedTypeIndex}
 use Rattle.wt_env.specs.declared.types.WasmSubType.{WasmSubType}
-use Rattle.wt_tree.specs.Trampoline.{other_trampoline}
+use Rattle.wt_env.specs.declared.types.WasmRecGroup.{WasmRecGroup}
+use Rattle.wt_tree.specs.Canonical.{canonical_index}
+use Rattle.wt_tree.specs.MapRefs.{map_group_refs}
+use Rattle.wt_tree.specs.ModuleTree.{module_trees}
+use Rattle.wt_tree.specs.Tree.{ClosedTree}
+use Rattle.wt_tree.specs.Trampoline.{is_own_trampoline, other_trampoline}
 use Rattle.wt_model.specs.Registered.{RegisteredGroup}
-use Rattle.wt_model.specs.Indices.{used}
+use Rattle.wt_model.specs.Indices.{used, closed_tree}
 use Rattle.wt_model.specs.Trampolines.{IsTrampoline, TellsTrampoline, TellTrampolines}
-use Rattle.wt_model.specs.Plan.{Plan, plan_trampolines}
+use Rattle.wt_model.specs.Plan.{Plan, Occurs, plan_trampolines, plan_group, plan_groups}
+use Rattle.wt_model.specs.Sound.{KeepRules}
 use Rattle.wt_keys.specs.declared.entry.RecGroupEntry.{RecGroupEntry}
 use Rattle.wt_keys.specs.Entries.{made_by}
 use Rattle.wt_keys.specs.Keys.{ResolvesTo, AreKeys, AreShown, IsNewKey}
@@ -76,8 +82,12 @@ pub record PlansTrampolines (entries : List RecGroupEntry) (before after : PlanF
   pub numbers : after.numbers.items ≡ before.numbers.items
   pub map : after.map.items ≡ before.map.items
 
+-- the group of a trampoline alone
+abbrev pub IsAlone : RecGroupEntry → Type 0
+IsAlone entry = (member : WasmSubType) × (is_own_trampoline member ≡ true) × (entry.hash_consing_key.types ≡ member ∷ [])
+
 -- One more group was planned: an entry that has these types as its key. It was there, or it is new, behind others
--- that are new, to which it leads.
+-- that are new, to which it leads: trampolines of its members.
 pub record PlansOne (entries : List RecGroupEntry) (before after : PlanFields) (types : List WasmSubType) : Type 0 where
   pub entry : RecGroupEntry
   pub group : entry.hash_consing_key.types ≡ types
@@ -87,3 +97,31 @@ pub record PlansOne (entries : List RecGroupEntry) (before after : PlanFields) (
   pub more : List RecGroupEntry
   pub plans : PlansMore entries before after more
   pub led : (e : RecGroupEntry) → Among e more → (e.number ≡ entry.number) ⊎ Among (Some e.number) entry.trampolines
+  pub alone : (e : RecGroupEntry) → Among e more → (e ≡ entry) ⊎ IsAlone e
+
+-- the key of a module's group behind the types so far
+abbrev pub key_of : PlanFields → WasmRecGroup → List WasmSubType
+key_of plan group = map_group_refs (canonical_index (length plan.map.items) plan.map.items) group.types
+
+-- One more group of a module was planned, and no type breaks a rule on what it names.
+pub record PlansGroup (entries : List RecGroupEntry) (before after : PlanFields) (group : WasmRecGroup) : Type 0 where
+  pub planned : plan_group (plan_of entries before) group ≡ plan_of entries after
+  pub keys : AreKeys (entries ++ after.added.items) after.given.numbers
+  pub one : PlansOne entries before after (key_of before group)
+  pub rules : KeepRules (made_by (entries ++ after.added.items))
+
+-- the closed trees of the types so far
+abbrev pub AreNamed : List RecGroupEntry → PlanFields → List ClosedTree → Type 0
+AreNamed entries plan known = map (closed_tree (made_by (entries ++ plan.added.items))) plan.map.items ≡ map Some known
+
+-- The groups of a module were planned: the groups that are new have keys that no other has, indices of their own, and the
+-- form in which they are shown; each occurs or is a trampoline of one that does; the types have the closed trees that
+-- the module gives them; and no type breaks a rule on what it names.
+pub record PlansModule (entries : List RecGroupEntry) (first plan : PlanFields) (groups : List WasmRecGroup) : Type 0 where
+  pub planned : plan_groups (plan_of entries first) groups ≡ plan_of entries plan
+  pub keys : AreKeys (entries ++ plan.added.items) plan.given.numbers
+  pub shown : AreShown plan.added.items
+  pub below : AreNewBelow entries plan.added.items
+  pub occurs : Occurs (plan_of entries plan)
+  pub named : AreNamed entries plan (module_trees [] groups)
+  pub rules : KeepRules (made_by (entries ++ plan.added.items))

@@ -1,5 +1,6 @@
-//! Plans of registrations: which groups are new, with their numbers and indices, and which limit they would
-//! pass, before anything is changed.
+//! Plans of registrations: which groups are new, with their numbers and indices, and which rule a module breaks first,
+//! before anything is changed.
 #![tactic(auto)]
 
+pub mod module_plan;
 pub mod plan;

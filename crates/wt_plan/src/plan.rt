@@ -5,9 +5,8 @@ ghost use Rattle.std.specs.Prelude.{◌≡◌, ◌+◌, List, ◌++◌, ◌∷�
 ghost use Rattle.std.specs.List.{find, list_any};
 ghost use Rattle.std.specs.Option.{option_copied};
 ghost use Rattle.wt_env.specs.Equality.{rec_group_eq};
-ghost use Rattle.wt_tree.specs.Canonical.{canonical_index};
 ghost use Rattle.wt_tree.specs.MapRefs.{map_group_refs as group_over};
-ghost use Rattle.wt_model.specs.Indices.{used, is_used as is_used_number, assign_shared_type_indices as free_indices_of, locate, closed_tree};
+ghost use Rattle.wt_model.specs.Indices.{used, is_used as is_used_number, assign_shared_type_indices as free_indices_of, locate};
 ghost use Rattle.wt_model.specs.Describe.{describe};
 ghost use Rattle.wt_model.specs.Reach.{edges};
 ghost use Rattle.wt_model.specs.Trampolines.{trampoline_numbers, TellTrampolines};
@@ -15,11 +14,8 @@ ghost use Rattle.wt_tree.specs.References.{number_group};
 ghost use Rattle.wt_tree.specs.Trampoline.{is_own_trampoline as own_test, other_trampoline as other_of};
 ghost use Rattle.wt_keys.specs.Entries.{made_of, made_by};
 ghost use Rattle.wt_keys.specs.Keys.{ResolvesTo, named_at, KeyNamesTypes, AreKeys, IsNewKey, own_shown};
-ghost use Rattle.wt_model.specs.Plan.{Occurs, with_new, plan_trampoline as plan_trampoline_of, plan_trampolines as plan_trampolines_of, plan_key as plan_key_of, plan_group as plan_group_of, plan_groups as plan_groups_of};
-ghost use Rattle.wt_plan.specs.Planned.{plan_of, AreResolved, AreNewBelow, PlansAlone, PlansTold, PlansTrampolines, PlansOne};
-ghost use Rattle.wt_keys.specs.Keys.{AreShown};
-ghost use Rattle.wt_rules.specs.Rules.{AreModuleTypes, first_broken};
-ghost use Rattle.wt_tree.specs.ModuleTree.{module_trees};
+ghost use Rattle.wt_model.specs.Plan.{with_new, plan_trampoline as plan_trampoline_of, plan_trampolines as plan_trampolines_of, plan_key as plan_key_of};
+ghost use Rattle.wt_plan.specs.Planned.{plan_of, AreResolved, PlansAlone, PlansTold, PlansTrampolines, PlansOne};
 
 use std::alloc::Global;
 use wt_env::memory::OutOfMemory;
@@ -28,7 +24,7 @@ use wt_env::types::{EngineOrModuleTypeIndex, VMSharedTypeIndex, WasmRecGroup, Wa
 use wt_keys::entry::RecGroupEntry;
 use wt_keys::search::{find_group, is_used, place_of};
 use wt_model::ever::EverRegistered;
-use wt_tree::map_refs::{IndexChange, canonical_group, map_group_refs};
+use wt_tree::map_refs::{IndexChange, map_group_refs};
 use wt_tree::refs::leaving_refs;
 use wt_tree::trampoline::other_trampoline;
 
@@ -217,7 +213,7 @@ fn new_entry(
 ) -> Result<RecGroupEntry, OutOfMemory>
     requires keys { AreKeys (entries.now ++ added.now) numbers }
     requires named { AreResolved (made_by (entries.now ++ added.now)) key.types }
-    requires kinds { KeyNamesTypes (made_by (entries.now ++ added.now)) key.types }
+    requires slots { KeyNamesTypes key.types }
     requires new { find (λ entry. rec_group_eq entry.hash_consing_key key) (entries.now ++ added.now) ≡ None }
     requires tell { TellTrampolines (made_by (entries.now ++ added.now)) key.types trampolines }
     ensures key { IfOk result (λ entry. IsNewKey (entries.now ++ added.now) numbers entry) }
@@ -378,7 +374,7 @@ fn plan_new(
 ) -> Result<(), OutOfMemory>
     requires keys { AreKeys (entries.now ++ plan.old.added.items) plan.old.given.numbers }
     requires named { AreResolved (made_by (entries.now ++ plan.old.added.items)) key.types }
-    requires kinds { KeyNamesTypes (made_by (entries.now ++ plan.old.added.items)) key.types }
+    requires slots { KeyNamesTypes key.types }
     requires new { find (λ entry. rec_group_eq entry.hash_consing_key key) (entries.now ++ plan.old.added.items) ≡ None }
     ensures ok { OnOk result (with_new (plan_trampolines_of (plan_of entries.now plan.old) key.types) key.types ≡ plan_of entries.now plan.new) }
     ensures keys { OnOk result (AreKeys (entries.now ++ plan.new.added.items) plan.new.given.numbers) }
@@ -392,8 +388,8 @@ fn plan_new(
     Ok(())
 }
 
-/// Plans one more group, whose references that leave it are indices of what stands or was planned, and name types of
-/// the kinds that they say.
+/// Plans one more group, whose references that leave it are indices of what stands or was planned. Each other reference
+/// is a place of its own, and each supertype is before the type that declares it.
 pub fn plan_key(
     alloc: Global,
     entries: &[RecGroupEntry],
@@ -402,7 +398,7 @@ pub fn plan_key(
 ) -> Result<(), OutOfMemory>
     requires keys { AreKeys (entries.now ++ plan.old.added.items) plan.old.given.numbers }
     requires named { AreResolved (made_by (entries.now ++ plan.old.added.items)) key.types }
-    requires kinds { KeyNamesTypes (made_by (entries.now ++ plan.old.added.items)) key.types }
+    requires slots { KeyNamesTypes key.types }
     ensures ok { OnOk result (plan_key_of (plan_of entries.now plan.old) key.types ≡ plan_of entries.now plan.new) }
     ensures keys { OnOk result (AreKeys (entries.now ++ plan.new.added.items) plan.new.given.numbers) }
     ensures one { OnOk result (PlansOne entries.now plan.old plan.new key.types) }
@@ -411,57 +407,4 @@ pub fn plan_key(
         return add_occurrence(&mut plan.numbers, &mut plan.map, entry);
     }
     plan_new(alloc, entries, plan, key)
-}
-
-/// A count of types as a number of 32 bits.
-fn to_u32(count: usize) -> Result<u32, OutOfMemory>
-    ensures { IfOk result (λ number. number ≡ count) }
-{
-    match u32::try_from(count) {
-        Ok(number) => Ok(number),
-        Err(_) => Err(OutOfMemory),
-    }
-}
-
-/// Plans one more group of a module, whose types count from behind those so far.
-fn plan_group(
-    alloc: Global,
-    entries: &[RecGroupEntry],
-    plan: &mut Plan,
-    group: &WasmRecGroup,
-) -> Result<(), OutOfMemory>
-    requires keys { AreKeys (entries.now ++ plan.old.added.items) plan.old.given.numbers }
-    requires named { AreResolved (made_by (entries.now ++ plan.old.added.items)) (group_over (canonical_index (length plan.old.map.items) plan.old.map.items) group.now.types) }
-    requires kinds { KeyNamesTypes (made_by (entries.now ++ plan.old.added.items)) (group_over (canonical_index (length plan.old.map.items) plan.old.map.items) group.now.types) }
-    ensures ok { OnOk result (plan_group_of (plan_of entries.now plan.old) group.now ≡ plan_of entries.now plan.new) }
-    ensures keys { OnOk result (AreKeys (entries.now ++ plan.new.added.items) plan.new.given.numbers) }
-    ensures one { OnOk result (PlansOne entries.now plan.old plan.new (group_over (canonical_index (length plan.old.map.items) plan.old.map.items) group.now.types)) }
-{
-    let start = to_u32(plan.map.len())?;
-    let types = canonical_group(alloc, start, plan.map.as_slice(), group.types.as_slice())?;
-    plan_key(alloc, entries, plan, WasmRecGroup { types })
-}
-
-/// Plans the groups of a module, which keeps its rules.
-pub fn plan_groups(
-    alloc: Global,
-    entries: &[RecGroupEntry],
-    plan: &mut Plan,
-    groups: &[WasmRecGroup],
-) -> Result<(), OutOfMemory>
-    requires empty { (plan.old.added.items ≡ []) × (plan.old.numbers.items ≡ []) × (plan.old.map.items ≡ []) }
-    requires keys { AreKeys entries.now plan.old.given.numbers }
-    requires named { AreModuleTypes groups.now }
-    requires rules { first_broken groups.now ≡ None }
-    ensures ok { OnOk result (plan_groups_of (plan_of entries.now plan.old) groups.now ≡ plan_of entries.now plan.new) }
-    ensures keys { OnOk result (AreKeys (entries.now ++ plan.new.added.items) plan.new.given.numbers) }
-    ensures shown { OnOk result (AreShown plan.new.added.items) }
-    ensures below { OnOk result (AreNewBelow entries.now plan.new.added.items) }
-    ensures occurs { OnOk result (Occurs (plan_of entries.now plan.new)) }
-    ensures named { OnOk result (map (closed_tree (made_by (entries.now ++ plan.new.added.items))) plan.new.map.items ≡ map Some (module_trees [] groups.now)) }
-{
-    for group in groups {
-        plan_group(alloc, entries, plan, group)?;
-    }
-    Ok(())
 }

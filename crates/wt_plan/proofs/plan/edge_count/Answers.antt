@@ -1,5 +1,5 @@
 -- the references that leave, and the trampolines that are told
-use Rattle.std.proofs.Common.{◌≡◌, ◌+◌, ◌<◌, ◌∙◌, ap, sym, List, ℕ, Option, count_by, is_some}
+use Rattle.std.proofs.Common.{◌+◌, ◌<◌, ◌∙◌, ap, sym, List, ℕ, Option, count_by, is_some}
 use Rattle.wt_plan.proofs.Checked.{checked_value}
 use Rattle.wt_plan.proofs.CountedEdges.{edges-counted}
 use Rattle.wt_plan.proofs.plan.edge_count.Goals as goal

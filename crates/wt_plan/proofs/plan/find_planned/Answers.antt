@@ -1,7 +1,7 @@
 -- what is found is found in the first, or else in the second
 use Rattle.std.proofs.Common.{◌∙◌}
 use Rattle.wt_env.specs.Equality.{rec_group_eq}
-use Rattle.wt_plan.proofs.Joined.{find_first, find_second}
+use Rattle.wt_keys.proofs.Joined.{find_first, find_second}
 use Rattle.wt_plan.proofs.plan.find_planned.Goals as goal
 
 pub returns-in-Some : goal.returns-in-Some

@@ -18,7 +18,7 @@ returns-clause-key c =
     let names = subst (λ types. ResolvesTo (made_by all) types entry.outer) c.as_slice.ensures c.in_ok-outer.ensures in
     let indices = c.in_ok-indices.ensures ∙ ap (λ n. assign_shared_type_indices n (used (made_by all))) c.len.ensures in
     let tell = tell-numbered (made_by all) c.args.key.types c.args.trampolines c.requires.tell in
-    new_key all c.args.numbers entry number names c.requires.keys tell indices c.requires.kinds c.requires.new
+    new_key all c.args.numbers entry number names c.requires.keys tell indices c.requires.slots c.requires.new
 
 pub returns-clause-made : goal.returns-clause-made
 returns-clause-made c =

@@ -1,11 +1,11 @@
 -- the group of a trampoline alone is found by its key, or it is the next one
-use Rattle.std.proofs.Common.{◌≡◌, ℕ, ◌++◌, List, [], ◌∷◌, Some, None, ap, subst, sym, ◌∙◌}
+use Rattle.std.proofs.Common.{◌++◌, List, [], ◌∷◌, Some, None, ap, subst, sym, ◌∙◌}
 use Rattle.wt_env.specs.declared.types.WasmSubType.{WasmSubType}
 use Rattle.wt_env.specs.declared.types.WasmRecGroup.{WasmRecGroup}
 use Rattle.wt_keys.specs.declared.entry.RecGroupEntry.{RecGroupEntry}
 use Rattle.wt_keys.specs.Entries.{made_by}
 use Rattle.wt_keys.specs.Keys.{ResolvesTo, KeyNamesTypes, IsNewKey}
-use Rattle.wt_plan.proofs.HostKeys.{alone-kinds}
+use Rattle.wt_plan.proofs.HostKeys.{alone-slots}
 use Rattle.wt_plan.proofs.GrownKeys.{plans-keys}
 use Rattle.wt_plan.proofs.Planning.{found_among, IsNext, plans-entry}
 use Rattle.wt_plan.proofs.PlannedTrampolines.{own-names, alone-found-planned, alone-found, alone-new-planned, alone-new}
@@ -30,10 +30,8 @@ new_entry-requires-clause-named c =
     let made = made_by (c.args.entries.now ++ c.as_slice-added.result.now) in
     ([], subst (λ (types : List WasmSubType). ResolvesTo made types []) (sym c.in_ok-key.ensures) (own-names made c.args.member c.requires.own))
 
-pub new_entry-requires-clause-kinds : goal.new_entry-requires-clause-kinds
-new_entry-requires-clause-kinds c =
-    let made = made_by (c.args.entries.now ++ c.as_slice-added.result.now) in
-    subst (KeyNamesTypes made) (sym c.in_ok-key.ensures) (alone-kinds made c.args.member c.requires.own)
+pub new_entry-requires-clause-slots : goal.new_entry-requires-clause-slots
+new_entry-requires-clause-slots c = subst KeyNamesTypes (sym c.in_ok-key.ensures) (alone-slots c.args.member c.requires.own)
 
 pub returns-clause-ok : goal.returns-clause-ok
 returns-clause-ok c =

@@ -38,6 +38,7 @@ returns-in-Some-clause-one c =
       more = [];
       plans = plans-none c.args.entries.now c.args.plan.now after refl refl;
       led = λ e at. absurd at;
+      alone = λ e at. absurd at;
     })
 
 pub plan_new-requires-clause-new : goal.plan_new-requires-clause-new

@@ -1,5 +1,5 @@
 -- a new group comes behind the trampolines of its members, to which it leads
-use Rattle.std.proofs.Common.{◌≡◌, ℕ, ◌+◌, ◌⊎◌, List, [], ◌∷◌, ◌++◌, sym, ap, subst, ◌∙◌}
+use Rattle.std.proofs.Common.{ℕ, List, [], ◌∷◌, ◌++◌, sym, ap, subst, ◌∙◌}
 use Rattle.std.specs.List.{find}
 use Rattle.wt_env.specs.Equality.{rec_group_eq}
 use Rattle.wt_env.specs.declared.types.WasmSubType.{WasmSubType}
@@ -8,9 +8,9 @@ use Rattle.wt_model.specs.Plan.{Plan, with_new}
 use Rattle.wt_model.specs.Trampolines.{TellTrampolines}
 use Rattle.wt_keys.specs.declared.entry.RecGroupEntry.{RecGroupEntry}
 use Rattle.wt_keys.specs.Entries.{made_by}
-use Rattle.wt_keys.specs.Keys.{KeyNamesTypes, IsNewKey}
+use Rattle.wt_keys.specs.Keys.{IsNewKey}
 use Rattle.wt_plan.specs.Planned.{AreResolved, PlansTrampolines}
-use Rattle.wt_plan.proofs.GrownKeys.{named-grown, key_names-grown, plans-keys}
+use Rattle.wt_plan.proofs.GrownKeys.{named-grown, plans-keys}
 use Rattle.wt_plan.proofs.Planning.{IsNext, occurs-new, plans-entry}
 use Rattle.wt_plan.proofs.PlannedTrampolines.{still-none, new-behind, new-led}
 use Rattle.wt_plan.proofs.plan.plan_new.Goals as goal
@@ -22,14 +22,6 @@ new_entry-requires-clause-named c =
     subst (λ (added : List RecGroupEntry). AreResolved (made_by (entries ++ added)) c.args.key.types) (sym c.as_slice-added.ensures.value)
     (subst (λ (all : List RecGroupEntry). AreResolved (made_by all) c.args.key.types) (new-behind entries c.args.plan.now c.plan_trampolines.new.plan c.args.key.types c.in_ok-told.told so_far)
     (named-grown (entries ++ c.args.plan.now.added.items) so_far.more c.args.key.types c.requires.named))
-
-pub new_entry-requires-clause-kinds : goal.new_entry-requires-clause-kinds
-new_entry-requires-clause-kinds c =
-    let entries = c.args.entries.now in
-    let so_far = subst (λ (types : List WasmSubType). PlansTrampolines entries c.args.plan.now c.plan_trampolines.new.plan types c.in_ok-told.told) c.as_slice.ensures c.in_ok-told.ensures in
-    subst (λ (added : List RecGroupEntry). KeyNamesTypes (made_by (entries ++ added)) c.args.key.types) (sym c.as_slice-added.ensures.value)
-    (subst (λ (all : List RecGroupEntry). KeyNamesTypes (made_by all) c.args.key.types) (new-behind entries c.args.plan.now c.plan_trampolines.new.plan c.args.key.types c.in_ok-told.told so_far)
-    (key_names-grown (entries ++ c.args.plan.now.added.items) so_far.more c.args.key.types c.requires.kinds))
 
 pub new_entry-requires-clause-new : goal.new_entry-requires-clause-new
 new_entry-requires-clause-new c =

@@ -1,5 +1,5 @@
 -- a member's trampoline is its own, or a group of its own is planned
-use Rattle.std.proofs.Common.{◌≡◌, Option, Some, subst, sym, ◌∙◌}
+use Rattle.std.proofs.Common.{Option, Some, subst, sym, ◌∙◌}
 use Rattle.wt_env.specs.declared.types.WasmSubType.{WasmSubType}
 use Rattle.wt_tree.proofs.Trampolines.{other-own}
 use Rattle.wt_plan.specs.Planned.{PlansTold}
