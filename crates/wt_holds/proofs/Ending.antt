@@ -10,7 +10,7 @@ use Rattle.wt_keys.specs.Entries.{made_by}
 use Rattle.wt_holds.specs.Kept.{registry_at}
 use Rattle.wt_keys.specs.Keys.{AreKeys}
 use Rattle.wt_keys.specs.Keys.{AreShown}
-use Rattle.wt_model.specs.Sound.{AreBelow}
+use Rattle.wt_model.specs.Sound.{KeepRules, AreBelow}
 use Rattle.wt_holds.specs.Kept.{AreKept}
 use Rattle.wt_model.specs.Registered.{RegisteredGroup, GroupHolds}
 use Rattle.wt_env.specs.Among.{Among}
@@ -82,6 +82,7 @@ drop-keeps engine groups after party number debt kept held entries given marks d
   keys = subst (λ (es : Vec RecGroupEntry Global). AreKeys es.items after.given.numbers) (sym entries)
       (subst (λ (g : EverRegistered). AreKeys groups.entries.items g.numbers) (sym given) kept.keys);
   shown = subst (λ (es : Vec RecGroupEntry Global). AreShown es.items) (sym entries) kept.shown;
+  rules = subst (λ (es : Vec RecGroupEntry Global). KeepRules (made_by es.items)) (sym entries) kept.rules;
   within = subst (λ (es : Vec RecGroupEntry Global). length es.items ≤ engine.limits.groups) (sym entries) kept.within;
   below = subst (λ (es : Vec RecGroupEntry Global). AreBelow engine.limits.types (made_by es.items)) (sym entries) kept.below;
   marks = marks;

@@ -12,11 +12,11 @@ use Rattle.wt_holds.specs.Kept.{AreKept}
 use Rattle.wt_holds.specs.Marks.{kept_entries}
 use Rattle.wt_model.specs.Registered.{GroupHolds, Registry}
 use Rattle.wt_model.specs.Removal.{reached_in, reached_part}
-use Rattle.wt_model.specs.Sound.{AreBelow, HoldsInvariant}
+use Rattle.wt_model.specs.Sound.{AreBelow, KeepRules, HoldsInvariant}
 use Rattle.wt_env.proofs.lists.Filtered.{filter_shorter}
 use Rattle.wt_keys.proofs.AddedKeys.{names_older}
 use Rattle.wt_holds.proofs.KeptKeys.{keys-kept, shown-kept}
-use Rattle.wt_model.proofs.removal.KeptPart.{KeepsLed, below-kept}
+use Rattle.wt_model.proofs.removal.KeptPart.{KeepsLed, led-named, below-kept, rules-kept}
 use Rattle.wt_model.proofs.removal.Removing.{part-led}
 
 -- the registry of the groups, with these counts
@@ -33,6 +33,7 @@ part-keeps engine groups after standings kept part entries marks stands = record
   keys = subst (λ (es : List RecGroupEntry). AreKeys es after.given.numbers) (sym entries)
       (subst (λ (g : EverRegistered). AreKeys (kept_entries keep old) g.numbers) given (keys-kept keep old groups.given.numbers kept.keys led));
   shown = subst AreShown (sym entries) (shown-kept keep old kept.shown);
+  rules = subst (λ (r : Registry). KeepRules r.made) part (rules-kept keep (made_by old) (led-named keep (made_by old) led) kept.keys.located kept.rules);
   within =
       let few = filter_shorter (λ (e : RecGroupEntry). keep e.number) old in
       let same = ap length entries in

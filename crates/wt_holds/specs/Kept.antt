@@ -3,7 +3,7 @@ use Rattle.std.specs.Prelude.{◌≡◌, ◌≤◌, List, length, map}
 use Rattle.wt_env.specs.Limits.{EngineParts}
 use Rattle.wt_model.specs.declared.ever.EverRegistered.{EverRegistered}
 use Rattle.wt_model.specs.Registered.{GroupHolds, Registry}
-use Rattle.wt_model.specs.Sound.{IsRising, NamesOlder, AreBelow, HoldsInvariant}
+use Rattle.wt_model.specs.Sound.{KeepRules, IsRising, NamesOlder, AreBelow, HoldsInvariant}
 use Rattle.wt_keys.specs.declared.entry.RecGroupEntry.{RecGroupEntry}
 use Rattle.wt_keys.specs.Entries.{made_by}
 use Rattle.wt_keys.specs.Keys.{AreKeys, AreShown}
@@ -29,6 +29,7 @@ pub record IsReady (groups : TypeRegistryInner) : Type 0 where
 pub record AreKept (engine : EngineParts) (groups : TypeRegistryInner) : Type 0 where
   pub keys : AreKeys groups.entries.items groups.given.numbers
   pub shown : AreShown groups.entries.items
+  pub rules : KeepRules (made_by groups.entries.items)
   pub within : length groups.entries.items ≤ engine.limits.groups
   pub below : AreBelow engine.limits.types (made_by groups.entries.items)
   pub marks : length groups.marks.items ≡ length groups.entries.items
