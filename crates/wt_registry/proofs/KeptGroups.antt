@@ -16,7 +16,7 @@ use Rattle.wt_model.specs.Holds.{held_at, times, hold_each}
 use Rattle.wt_model.specs.Plan.{Plan, Occurs, groups_of}
 use Rattle.wt_model.specs.Limits.{first_full, wanted_of, holds_wanted, passed_limit}
 use Rattle.wt_model.specs.Registration.{new_holds, stop_waiting_each, carried_out}
-use Rattle.wt_model.specs.Sound.{IsRising, NamesOlder, AreBelow, AreCounted, HoldsInvariant}
+use Rattle.wt_model.specs.Sound.{IsRising, NamesOlder, AreBelow, KeepRules, AreCounted, HoldsInvariant}
 use Rattle.wt_model.proofs.plan.CarriedOut.{CanCarryOut, carried-holds}
 use Rattle.wt_keys.specs.declared.entry.RecGroupEntry.{RecGroupEntry}
 use Rattle.wt_keys.specs.Entries.{made_of, made_by}
@@ -36,6 +36,7 @@ pub kept-same : (engine : EngineParts) (old new : TypeRegistryInner) → AreKept
 kept-same engine old new kept entries counts marks given = record {
   keys = subst (λ (list : List RecGroupEntry). AreKeys list new.given.numbers) (sym entries) (subst (λ (g : EverRegistered). AreKeys old.entries.items g.numbers) (sym given) kept.keys);
   shown = subst AreShown (sym entries) kept.shown;
+  rules = subst (λ (list : List RecGroupEntry). KeepRules (made_by list)) (sym entries) kept.rules;
   within = subst (λ (list : List RecGroupEntry). length list ≤ engine.limits.groups) (sym entries) kept.within;
   below = subst (λ (list : List RecGroupEntry). AreBelow engine.limits.types (made_by list)) (sym entries) kept.below;
   marks = ap length marks ∙ kept.marks ∙ ap length (sym entries);
@@ -136,8 +137,8 @@ module _ (engine : EngineParts) (old : TypeRegistryInner) (plan : PlanFields) (p
     pub carried-at : carried_out (registry_at engine old) party (plan_of old.entries.items plan) ≡ registry_at engine new
     carried-at = λ i. record { engine = engine; made = made-new i; given = (sym given) i; standings = (sym counts) i }
 
-    pub kept-carried : AreShown plan.added.items → AreNewBelow old.entries.items plan.added.items → length new.marks.items ≡ length old.marks.items + length plan.added.items → AreKept engine new
-    kept-carried shown below marks =
+    pub kept-carried : KeepRules (made_by (old.entries.items ++ plan.added.items)) → AreShown plan.added.items → AreNewBelow old.entries.items plan.added.items → length new.marks.items ≡ length old.marks.items + length plan.added.items → AreKept engine new
+    kept-carried rules shown below marks =
         let grouped = groups_within (registry_at engine old) party (plan_of old.entries.items plan) none in
         let so_many : length (groups_of (plan_of old.entries.items plan)) ≡ length new.entries.items = ap length made-new ∙ length-map new.entries.items made_of in
         let longer : length new.entries.items ≡ length old.entries.items + length plan.added.items = ap length entries ∙ length-append old.entries.items plan.added.items in
@@ -145,6 +146,7 @@ module _ (engine : EngineParts) (old : TypeRegistryInner) (plan : PlanFields) (p
         record {
           keys = subst (λ (list : List RecGroupEntry). AreKeys list new.given.numbers) (sym entries) (subst (λ (g : EverRegistered). AreKeys (old.entries.items ++ plan.added.items) g.numbers) (sym given) keys);
           shown = subst AreShown (sym entries) (λ entry at. ⊎_elim (kept.shown entry) (shown entry) (among_either old.entries.items plan.added.items entry at));
+          rules = subst (λ (list : List RecGroupEntry). KeepRules (made_by list)) (sym entries) rules;
           within = omega (arith, grouped, so_many);
           below = subst (AreBelow engine.limits.types) made-new (λ a i at there. all_below a i (among_either (made_by old.entries.items) (made_by plan.added.items) a at) there);
           marks = omega (arith, marks, longer, marked);

@@ -18,6 +18,7 @@ sound engine groups kept =
       indexed = indexed groups.entries.items groups.given.numbers kept.keys;
       below = kept.below;
       name_types = name_types groups.entries.items groups.given.numbers kept.keys;
+      rules = kept.rules;
       trampolines = have_trampolines groups.entries.items groups.given.numbers kept.keys;
       holds = kept.holds;
     })

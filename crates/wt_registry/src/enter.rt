@@ -12,7 +12,7 @@ ghost use Rattle.wt_model.specs.Holds.{held_at, stop_waiting as no_longer_waits,
 ghost use Rattle.wt_model.specs.Plan.{Occurs};
 ghost use Rattle.wt_model.specs.Limits.{passed_limit as limit_passed};
 ghost use Rattle.wt_model.specs.Registration.{new_holds, stop_waiting_each as none_waits, carried_out, IsRefusal};
-ghost use Rattle.wt_model.specs.Sound.{AreCounted};
+ghost use Rattle.wt_model.specs.Sound.{AreCounted, KeepRules};
 ghost use Rattle.wt_model.specs.Changes.{HoldChanges};
 ghost use Rattle.wt_keys.specs.declared.entry.RecGroupEntry.{RecGroupEntry as EntryOf};
 ghost use Rattle.wt_keys.specs.Entries.{made_of, made_by};
@@ -196,6 +196,7 @@ pub(crate) fn check_and_commit(
     requires party { party < engine.now.limits.parties }
     requires keys { AreKeys (groups.old.entries.items ++ plan.added.items) plan.given.numbers }
     requires shown { AreShown plan.added.items }
+    requires rules { KeepRules (made_by (groups.old.entries.items ++ plan.added.items)) }
     requires below { AreNewBelow groups.old.entries.items plan.added.items }
     requires occurs { Occurs (plan_of groups.old.entries.items plan) }
     ensures accepted { OnOk result (limit_passed (registry_at engine.now groups.old) party (plan_of groups.old.entries.items plan) ≡ None) }

@@ -16,6 +16,6 @@ pub fn are_one_type(registry: &TypeRegistry, left: &RegisteredType, right: &Regi
     ensures trees { IsTrue result ↔ (closed_tree registry.now.made left.now.index ≡ closed_tree registry.now.made right.now.index) }
     ensures hashes { IsTrue result → hold_feed left.now ≡ hold_feed right.now }
 {
-    registry.assure();
+    registry.tell_invariant();
     left == right
 }

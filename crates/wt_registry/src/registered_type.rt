@@ -171,7 +171,7 @@ impl RegisteredType {
         ensures party { party.new ≡ party.old }
         ensures sound { IsSound registry.new }
     {
-        registry.assure();
+        registry.tell_invariant();
         let engine = registry.engine().number();
         match registry.number_at(index) {
             Some(number) => match registry.hold(party.number(), number) {
@@ -205,7 +205,7 @@ impl RegisteredType {
         ensures same_party { party.new ≡ party.old }
         ensures sound { IsSound registry.new }
     {
-        registry.assure();
+        registry.tell_invariant();
         match registry.hold(party.number(), self.number) {
             Ok(()) => Ok(RegisteredType {
                 engine: self.engine,
@@ -265,7 +265,7 @@ impl RegisteredType {
         ensures same_party { party.new ≡ party.old }
         ensures sound { IsSound registry.new }
     {
-        registry.assure();
+        registry.tell_invariant();
         let number = self.number;
         self.forget();
         registry.end_hold(party.number(), number)

@@ -18,8 +18,9 @@ use wt_model::ever::EverRegistered;
 use wt_model::live::LiveGroup;
 use wt_model::refusal::{BuildRefusal, Full};
 use wt_model::swept::Swept;
-use wt_plan::plan::{Plan, plan_groups};
-use wt_rules::rules::{are_functions, first_broken};
+use wt_plan::module_plan::plan_groups;
+use wt_plan::plan::Plan;
+use wt_rules::rules::are_functions;
 
 /// The recursion groups that an engine has registered.
 #[derive(Drop)]
@@ -48,6 +49,7 @@ impl TypeRegistry {
     ghost use Rattle.wt_model.specs.Registered.{empty_registry};
     ghost use Rattle.wt_tree.specs.Trampoline.{trampoline};
     ghost use Rattle.wt_tree.specs.Subtyping.{TellsSteps};
+    ghost use Rattle.wt_tree.specs.Fit.{StepsFit};
     ghost use Rattle.wt_model.specs.Indices.{locate, number_of, closed_tree};
     ghost use Rattle.wt_model.specs.Trampolines.{trampoline_index, trampolines_of};
     ghost use Rattle.wt_model.specs.FunctionIndices.{IsFunctionIndex};
@@ -114,7 +116,7 @@ impl TypeRegistry {
         ensures value { result ≡ is_subtype_index self.now.made sub sup }
         ensures own { sub ≡ sup → IsTrue result }
     {
-        self.assure();
+        self.tell_invariant();
         is_subtype_of(self.groups.entries.as_slice(), sub, sup)
     }
 
@@ -148,9 +150,10 @@ impl TypeRegistry {
         live_groups(self.alloc, self.groups.entries.as_slice())
     }
 
-    /// What is true of every registry.
-    pub fn assure(&self)
-        ensures { IsSound self.now }
+    /// What is true of every registry; the shape of each registered type matches that of its declared supertype.
+    pub fn tell_invariant(&self)
+        ensures sound { IsSound self.now }
+        ensures fit { StepsFit (closed_tree self.now.made) }
     {
         let _standing = &self.groups;
     }
@@ -197,16 +200,16 @@ impl TypeRegistry {
         ensures party { party.new ≡ party.old }
         ensures sound { IsSound self.new }
     {
-        self.assure();
-        if let Some((place, rule)) = first_broken(types) {
+        self.tell_invariant();
+        let mut plan = Plan::new(self.alloc, self.groups.given);
+        let entries = self.groups.entries.as_slice();
+        let groups = types.groups.as_slice();
+        if let Some((place, rule)) = plan_groups(self.alloc, entries, &mut plan, groups)? {
             return Err(BuildRefusal::InvalidModule { place, rule });
         }
         if !self.engine.gc() && !are_functions(types) {
             return Err(BuildRefusal::NoGc);
         }
-        let mut plan = Plan::new(self.alloc, self.groups.given);
-        let entries = self.groups.entries.as_slice();
-        plan_groups(self.alloc, entries, &mut plan, types.groups.as_slice())?;
         let mut trampolines = Vec::with_capacity(self.alloc, plan.map.len())?;
         let (numbers, map) = check_and_commit(
             self.alloc,

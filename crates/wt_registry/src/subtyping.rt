@@ -10,14 +10,14 @@ impl Supers for TypeRegistry {
     ghost types = { λ registry. closed_tree registry.made };
 
     fn is_subtype(&self, sub: VMSharedTypeIndex, sup: VMSharedTypeIndex) -> bool {
-        self.assure();
+        self.tell_invariant();
         self.is_subtype(sub, sup)
     }
 }
 
 impl Types for TypeRegistry {
     fn borrow(&self, index: VMSharedTypeIndex) -> Option<&WasmSubType> {
-        self.assure();
+        self.tell_invariant();
         self.borrow(index)
     }
 }

@@ -15,6 +15,8 @@ use wt_rules::rules::{are_countable, are_module_types};
 use wt_tree::laws::{BothWays, antisymmetric};
 use wt_tree::supers::Types;
 
+mod rules;
+
 /// The final struct of one field, a reference to a struct of the module.
 fn structure(alloc: Global, mutable: bool, index: u32) -> Result<WasmSubType, OutOfMemory> {
     let named = EngineOrModuleTypeIndex::Module(ModuleInternedTypeIndex(index));

@@ -132,7 +132,7 @@ pub returns-clause-kept : goal.returns-clause-kept
 returns-clause-kept c =
     kept-carried c.args.engine.now c.args.groups.now c.args.plan c.args.party c.requires.kept c.requires.party c.requires.keys c.requires.occurs (returns-clause-accepted c) c.insert_entries.new.groups
     (entered c) c.insert_entries.ensures.given (counted c)
-    c.requires.shown c.requires.below
+    c.requires.rules c.requires.shown c.requires.below
     (c.insert_entries.ensures.marks ∙ ap (λ ms. length ms + length c.args.plan.added.items) c.reserve_groups.ensures.marks)
 
 pub returns-clause-changes : goal.returns-clause-changes

@@ -10,5 +10,5 @@ returns-clause-trees c =
     let left = c.args.left.now in
     let right = c.args.right.now in (
       λ told. ap (closed_tree made) (index_equal left right c.eq.result c.eq.ensures told),
-      λ same. holds_equal left right c.eq.result c.eq.ensures c.requires.engine (one_type made left.index right.index c.assure.ensures.one_index c.requires.left c.requires.right same),
+      λ same. holds_equal left right c.eq.result c.eq.ensures c.requires.engine (one_type made left.index right.index c.tell_invariant.ensures.sound.one_index c.requires.left c.requires.right same),
     )

@@ -24,7 +24,7 @@ pub returns-clause-owed : goal.returns-clause-owed
 returns-clause-owed c =
     let registry = c.args.registry.now in
     let number : c.self.inside.number ≡ c.args.self.number = ap (λ (h : Hold). h.number) c.self.view_is in
-    owes registry c.end_hold.new.self c.args.party.now c.args.self.number c.end_hold.result c.assure.ensures
+    owes registry c.end_hold.new.self c.args.party.now c.args.self.number c.end_hold.result c.tell_invariant.ensures.sound
     (subst (λ (party : ℕ). 1 ≤ held_at registry.standings party c.args.self.number) (sym c.requires.owner) c.requires.held.held)
     (dropped registry c.end_hold.new.self c.args.party.now c.number.result c.args.self.number c.self.inside.number c.end_hold.result c.number.ensures number c.end_hold.ensures.dropped)
 
@@ -39,6 +39,6 @@ pub returns-clause-changes : goal.returns-clause-changes
 returns-clause-changes c =
     let registry = c.args.registry.now in
     let number : c.self.inside.number ≡ c.args.self.number = ap (λ (h : Hold). h.number) c.self.view_is in
-    drop_hold-changes registry c.end_hold.new.self c.args.party.now c.args.self.number c.end_hold.result c.assure.ensures.holds (omega (arith, c.requires.owner, c.requires.held.party))
+    drop_hold-changes registry c.end_hold.new.self c.args.party.now c.args.self.number c.end_hold.result c.tell_invariant.ensures.sound.holds (omega (arith, c.requires.owner, c.requires.held.party))
     (subst (λ (party : ℕ). 1 ≤ held_at registry.standings party c.args.self.number) (sym c.requires.owner) c.requires.held.held)
     (dropped registry c.end_hold.new.self c.args.party.now c.number.result c.args.self.number c.self.inside.number c.end_hold.result c.number.ensures number c.end_hold.ensures.dropped)

@@ -1,17 +1,24 @@
 -- a plan of one key, carried out
-use Rattle.std.proofs.Common.{◌≡◌, ℕ, [], ◌∷◌, ◌++◌, slice_get, Some, Ok, IfErr, Result, Err, sym, ap, subst, ◌∙◌, arith}
+use Rattle.std.proofs.Common.{◌≡◌, ℕ, List, [], ◌∷◌, ◌++◌, slice_get, Some, Ok, IfErr, Result, Err, sym, ap, subst, ◌∙◌, arith}
 use Rattle.std.specs.Result.{IsErrAnd}
 use Rattle.wt_env.specs.Limits.{EngineParts}
 use Rattle.wt_model.specs.declared.refusal.BuildRefusal.{BuildRefusal}
 use Rattle.wt_model.specs.Holds.{held_at}
 use Rattle.wt_model.specs.Registered.{Registry}
 use Rattle.wt_model.specs.Registration.{host_type, registration_refusal, IsRefusal, register}
-use Rattle.wt_model.specs.Sound.{IsSound}
+use Rattle.wt_model.specs.Sound.{KeepRules, IsSound}
 use Rattle.wt_model.specs.Changes.{HoldChanges}
 use Rattle.wt_model.proofs.holds.HeldEach.{times-own}
 use Rattle.wt_keys.specs.Entries.{made_by}
-use Rattle.wt_keys.specs.Keys.{KeyNamesTypes}
-use Rattle.wt_plan.proofs.HostKeys.{host-kinds}
+use Rattle.wt_keys.specs.declared.entry.RecGroupEntry.{RecGroupEntry}
+use Rattle.wt_keys.specs.Keys.{KeyNamesTypes, AreKeys}
+use Rattle.wt_model.specs.declared.ever.EverRegistered.{EverRegistered}
+use Rattle.wt_tree.proofs.Plain.{number_function-own}
+use Rattle.wt_plan.specs.declared.plan.Plan.{Plan as PlanFields}
+use Rattle.wt_plan.specs.Planned.{PlansOne}
+use Rattle.wt_plan.proofs.RulesKept.{rules-host}
+use Rattle.std.proofs.lemmas.List.{append-nil}
+use Rattle.wt_plan.proofs.HostKeys.{host-slots}
 use Rattle.wt_holds.specs.Kept.{registry_at}
 use Rattle.wt_registry.proofs.OnePlanned.{IsPlanned, is_planned, plain-named, one-occurs, one-below, first-number, first-place, own-numbers, accepts, registers, named, is_at, refused}
 use Rattle.wt_registry.proofs.Soundness.{sound}
@@ -24,10 +31,8 @@ pub plan_key-requires-clause-named : goal.plan_key-requires-clause-named
 plan_key-requires-clause-named c = plain-named (made_by (c.as_slice-entries.result.now ++ c.new-plan.result.added.items)) c.in_ok-key.key.types c.args.ty c.requires.plain c.in_ok-key.ensures
 
 -- the key of one function over numbers has no index in it
-pub plan_key-requires-clause-kinds : goal.plan_key-requires-clause-kinds
-plan_key-requires-clause-kinds c =
-    let made = made_by (c.as_slice-entries.result.now ++ c.new-plan.result.added.items) in
-    subst (KeyNamesTypes made) (sym c.in_ok-key.ensures) (host-kinds made c.args.ty c.requires.plain)
+pub plan_key-requires-clause-slots : goal.plan_key-requires-clause-slots
+plan_key-requires-clause-slots c = subst KeyNamesTypes (sym c.in_ok-key.ensures) (host-slots c.args.ty c.requires.plain)
 
 pub returns-in_err-plan_key-clause-sound : goal.returns-in_err-plan_key-clause-sound
 returns-in_err-plan_key-clause-sound c = subst IsSound c.registry.view_is (sound c.registry.inside.engine c.registry.inside.groups c.registry.invariant)
@@ -37,6 +42,22 @@ planned c =
     is_planned c.registry.inside.engine c.registry.inside.groups c.as_slice-entries.result.now c.new-plan.result c.plan_key.new.plan c.in_ok-key.key.types c.args.registry.now c.args.ty
     c.as_slice-entries.ensures.value c.in_ok-key.ensures c.registry.view_is c.new-plan.ensures.added c.new-plan.ensures.given c.new-plan.ensures.numbers c.new-plan.ensures.map
     c.in_ok-plan_key.ensures.ok c.in_ok-plan_key.ensures.keys c.in_ok-plan_key.ensures.one
+
+pub check_and_commit-requires-clause-rules : goal.check_and_commit-requires-clause-rules
+check_and_commit-requires-clause-rules c =
+    let entries = c.as_slice-entries.result.now in
+    let before : PlanFields = c.new-plan.result in
+    let after : PlanFields = c.plan_key.new.plan in
+    let value = c.as_slice-entries.ensures.value in
+    let none : entries ++ before.added.items ≡ c.registry.inside.groups.entries.items =
+    ap (λ (added : List RecGroupEntry). entries ++ added) c.new-plan.ensures.added ∙ append-nil entries ∙ value in
+    let keys =
+    subst (λ (es : List RecGroupEntry). AreKeys es before.given.numbers) (sym none)
+    (subst (λ (given : EverRegistered). AreKeys c.registry.inside.groups.entries.items given.numbers) (sym c.new-plan.ensures.given) c.registry.invariant.keys) in
+    let rules = subst (λ (es : List RecGroupEntry). KeepRules (made_by es)) (sym none) c.registry.invariant.rules in
+    subst (λ (es : List RecGroupEntry). KeepRules (made_by (es ++ after.added.items))) value
+    (rules-host entries before after c.args.ty keys c.in_ok-plan_key.ensures.keys (subst (PlansOne entries before after) c.in_ok-key.ensures c.in_ok-plan_key.ensures.one)
+    (number_function-own c.args.ty c.requires.plain) rules)
 
 pub check_and_commit-requires-clause-below : goal.check_and_commit-requires-clause-below
 check_and_commit-requires-clause-below c =

@@ -14,6 +14,7 @@ invariant_of-self c =
     record {
       keys = kept.keys;
       shown = kept.shown;
+      rules = kept.rules;
       within = kept.within;
       marks = kept.marks;
       below = kept.below;

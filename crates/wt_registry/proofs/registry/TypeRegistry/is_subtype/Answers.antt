@@ -21,7 +21,7 @@ returns-clause-steps c =
     let j = c.args.sup in
     let value : c.is_subtype_of.result ≡ is_subtype_index c.args.self.now.made i j =
     c.is_subtype_of.ensures ∙ ap (λ es. is_subtype_index (made_by es) i j) c.as_slice.ensures.value ∙ ap (λ (r : Registry). is_subtype_index r.made i j) c.self.view_is in
-    sound-steps c.args.self.now c.assure.ensures i j c.is_subtype_of.result value
+    sound-steps c.args.self.now c.tell_invariant.ensures.sound i j c.is_subtype_of.result value
 
 pub returns-clause-own : goal.returns-clause-own
 returns-clause-own c = λ same.

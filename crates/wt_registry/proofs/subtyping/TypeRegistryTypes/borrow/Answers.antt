@@ -15,4 +15,4 @@ pub returns-clause-shows : goal.returns-clause-shows
 returns-clause-shows c =
     let registry = c.args.self.now in
     let i = c.args.index in
-    referred (λ x. x.now) (ShowsAt (closed_tree registry.made) i) c.borrow.result (sub_type_at registry.made i) c.borrow.ensures.value (sound-shows registry c.assure.ensures i)
+    referred (λ x. x.now) (ShowsAt (closed_tree registry.made) i) c.borrow.result (sub_type_at registry.made i) c.borrow.ensures.value (sound-shows registry c.tell_invariant.ensures.sound i)
