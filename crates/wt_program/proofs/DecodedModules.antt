@@ -1,12 +1,12 @@
 -- The types of decoded groups refer to each other by module index alone.
-use Rattle.std.proofs.Common.{◌≡◌, ℕ, ◌==◌, Bool, true, false, List, Option, Some, None, option_map, option_and_then, refl}
-use Rattle.std.specs.Prelude.{⊤, IfSome, bytes_eq, codes}
+use Rattle.std.proofs.Common.{◌≡◌, ℕ, ◌==◌, Bool, true, false, List, ◌++◌, map, Option, Some, None, option_map, option_and_then, refl}
+use Rattle.std.specs.Prelude.{⊤, IfSome, bytes_eq, codes, option_to_list}
 use Rattle.std.specs.Option.{option_map_or}
 use Rattle.serde_json.specs.Data.{Data, Items, no_items, item}
 use Rattle.serde_json.specs.Find.{get, as_str, as_array}
 use Rattle.wt_env.specs.Json.{key_count, only_at, decode_u32, each_of, two_of}
 use Rattle.wt_env.specs.DecodeValues.{abstract_named, decode_index, decode_concrete, decode_heap, nullable_named, ref_to, decode_spelled_ref, decode_ref, number_named, decode_number, decode_val, packed_named, decode_packed, decode_storage, field_of, decode_field}
-use Rattle.wt_env.specs.DecodeGroups.{decode_vals, func_from, decode_func, decode_struct, decode_array, composite_in, final_of, decode_member, decode_group, decode_groups}
+use Rattle.wt_env.specs.DecodeGroups.{decode_vals, func_from, decode_func, decode_struct, decode_array, decode_cont, decode_constant, decode_constants, exn_from, exn_in, composite_in, final_in, super_in, known_keys, member_in, decode_member, decode_group, decode_groups}
 use Rattle.wt_env.specs.declared.types.EngineOrModuleTypeIndex.{EngineOrModuleTypeIndex}
 use Rattle.wt_env.specs.declared.types.EngineOrModuleTypeIndex.TheVariants.{Module}
 use Rattle.wt_env.specs.declared.types.Kind.{Kind}
@@ -19,6 +19,7 @@ use Rattle.wt_env.specs.declared.types.WasmStorageType.{WasmStorageType}
 use Rattle.wt_env.specs.declared.types.WasmStorageType.TheVariants as storage
 use Rattle.wt_env.specs.declared.types.WasmFieldType.{WasmFieldType}
 use Rattle.wt_env.specs.declared.types.WasmFuncType.{WasmFuncType}
+use Rattle.wt_env.specs.declared.types.WasmExnType.{WasmExnType}
 use Rattle.wt_env.specs.declared.types.WasmCompositeInnerType.{WasmCompositeInnerType}
 use Rattle.wt_env.specs.declared.types.WasmCompositeInnerType.TheVariants as shape
 use Rattle.wt_env.specs.declared.types.WasmSubType.{WasmSubType}
@@ -90,7 +91,9 @@ concrete_is : (d : Data) → IfSome (decode_concrete d) HeapIs
 concrete_is d =
     concrete_with heap.ConcreteFunc (λ i is. (is, tt)) (only_at (codes "func") d) _ (
     concrete_with heap.ConcreteStruct (λ i is. (is, tt)) (only_at (codes "struct") d) _ (
-    concrete_with heap.ConcreteArray (λ i is. (is, tt)) (only_at (codes "array") d) None tt))
+    concrete_with heap.ConcreteArray (λ i is. (is, tt)) (only_at (codes "array") d) _ (
+    concrete_with heap.ConcreteExn (λ i is. (is, tt)) (only_at (codes "exn") d) _ (
+    concrete_with heap.ConcreteCont (λ i is. (is, tt)) (only_at (codes "cont") d) None tt))))
 
 heap_is : (d : Data) → IfSome (decode_heap d) HeapIs
 heap_is d = found_or (λ name. ⊤) HeapIs abstract_named (λ name any. abstract_is name) (as_str d) (any_value (as_str d)) (decode_concrete d) (concrete_is d)
@@ -191,6 +194,25 @@ struct_is d =
 array_is : (d : Data) → IfSome (decode_array d) (λ a. ShapeIs (shape.Array a))
 array_is d = mapped FieldIs (λ a. ShapeIs (shape.Array a)) (λ field. record { 0 = field }) (λ field is. is) (decode_field d) (field_is d)
 
+cont_is : (d : Data) → IfSome (decode_cont d) (λ c. ShapeIs (shape.Cont c))
+cont_is d = mapped IsOfModule (λ c. ShapeIs (shape.Cont c)) (λ index. record { 0 = index }) (λ index is. (is, tt)) (decode_index d) (index_is d)
+
+constant_is : (d : Data) → IfSome (decode_constant d) FieldIs
+constant_is d = mapped ValIs FieldIs (λ v. field_of false (storage.Val v)) (λ v is. is) (decode_val d) (val_is d)
+
+abbrev ExnIs : WasmExnType → Type 0
+ExnIs exn = ShapeIs (shape.Exn exn)
+
+exn_from_is : (func fields : Data) → IfSome (exn_from func fields) ExnIs
+exn_from_is func fields =
+    chained IsOfModule ExnIs (λ i. option_map (λ constants. record { func_ty = i; fields = constants }) (decode_constants fields))
+    (λ i is. mapped (EachIs FieldIs) ExnIs (λ constants. record { func_ty = i; fields = constants })
+    (λ constants each. (is, each_flat (λ reference. IsOfModule reference.1) kinded_field constants each)) (decode_constants fields) (listed FieldIs decode_constant constant_is fields))
+    (decode_index func) (index_is func)
+
+exn_is : (d func : Data) → IfSome (exn_in d func) ExnIs
+exn_is d func = chained (λ fields. ⊤) ExnIs (exn_from func) (λ fields any. exn_from_is func fields) (get (codes "fields") d) (any_value (get (codes "fields") d))
+
 shape_with : {A : Type 0} (f : A → WasmCompositeInnerType) (read : Data → Option A) → ((d : Data) → IfSome (read d) (λ a. ShapeIs (f a))) → (o : Option Data) (otherwise : Option WasmCompositeInnerType) → IfSome otherwise ShapeIs
     → IfSome (option_map_or (λ d. option_map f (read d)) o otherwise) ShapeIs
 shape_with f read is o otherwise other =
@@ -198,14 +220,37 @@ shape_with f read is o otherwise other =
 
 shape_is : (d : Data) → IfSome (composite_in d) ShapeIs
 shape_is d =
+    shape_with shape.Exn (exn_in d) (exn_is d) (get (codes "exn") d) _ (
     shape_with shape.Func decode_func func_is (get (codes "func") d) _ (
     shape_with shape.Struct decode_struct struct_is (get (codes "struct") d) _ (
-    shape_with shape.Array decode_array array_is (get (codes "array") d) None tt))
+    shape_with shape.Array decode_array array_is (get (codes "array") d) _ (
+    shape_with shape.Cont decode_cont cont_is (get (codes "cont") d) None tt))))
 
 -- ---- groups
 
+-- the supertype that a type declares, if it does
+abbrev DeclaredIs : Option EngineOrModuleTypeIndex → Type 0
+DeclaredIs supertype = IfSome supertype IsOfModule
+
+super_is : (d : Data) → IfSome (super_in d) DeclaredIs
+super_is d =
+    found_or (λ index. ⊤) DeclaredIs (λ index. option_map Some (decode_index index)) (λ index any. mapped IsOfModule DeclaredIs Some (λ i is. is) (decode_index index) (index_is index))
+    (get (codes "super") d) (any_value (get (codes "super") d)) (Some None) tt
+
+-- a type's indices are those of its supertype and of its shape
+indices_are : (supertype : Option EngineOrModuleTypeIndex) (s : WasmCompositeInnerType) → DeclaredIs supertype → ShapeIs s → EachIs IsOfModule (option_to_list supertype ++ map (λ reference. reference.1) (kinded_shape s))
+indices_are None s declared is = each_mapped IsOfModule (λ reference. reference.1) (kinded_shape s) is
+indices_are (Some i) s declared is = (declared, each_mapped IsOfModule (λ reference. reference.1) (kinded_shape s) is)
+
+member_in_is : (d : Data) → IfSome (member_in d) MemberIs
+member_in_is d =
+    chained (λ is_final. ⊤) MemberIs _
+    (λ is_final any. chained DeclaredIs MemberIs _
+    (λ supertype declared. mapped ShapeIs MemberIs (λ s. record { is_final = is_final; supertype = supertype; composite_type = s }) (λ s is. indices_are supertype s declared is) (composite_in d) (shape_is d))
+    (super_in d) (super_is d)) (final_in d) (any_value (final_in d))
+
 member_is : (d : Data) → IfSome (decode_member d) MemberIs
-member_is d = either MemberIs (key_count d == 1) _ None (mapped ShapeIs MemberIs final_of (λ s is. each_mapped IsOfModule (λ reference. reference.1) (kinded_shape s) is) (composite_in d) (shape_is d)) tt
+member_is d = either MemberIs (key_count d == known_keys d) (member_in d) None (member_in_is d) tt
 
 group_is : (d : Data) → IfSome (decode_group d) GroupIs
 group_is d = mapped (EachIs MemberIs) GroupIs (λ types. record { types = types }) (λ types each. each) (option_and_then (each_of decode_member) (as_array d)) (listed MemberIs decode_member member_is d)

@@ -11,7 +11,7 @@ use Rattle.wt_model.specs.declared.refusal.Full.{Full}
 use Rattle.wt_rules.specs.declared.place.Place.{Place}
 use Rattle.wt_rules.specs.declared.place.Place.TheVariants.{Member}
 use Rattle.wt_rules.specs.declared.place.Rule.{Rule}
-use Rattle.wt_rules.specs.declared.place.Rule.TheVariants.{Forward, SuperOrder, Kind}
+use Rattle.wt_rules.specs.declared.place.Rule.TheVariants.{Forward, SuperOrder, Kind, SuperFinal, SuperKind, SuperMismatch, ExnOpen, ExnResults, ExnFields}
 use Rattle.wt_model.specs.declared.handle_kind.HandleKind.{HandleKind}
 use Rattle.wt_model.specs.declared.handle_kind.HandleKind.TheVariants as kinds
 use Rattle.wt_session.specs.declared.reply.Refusal.{Refusal}
@@ -66,6 +66,12 @@ abbrev pub rule_word : Rule → List ℕ
 rule_word Forward = codes "forward"
 rule_word SuperOrder = codes "super-order"
 rule_word Kind = codes "kind"
+rule_word SuperFinal = codes "super-final"
+rule_word SuperKind = codes "super-kind"
+rule_word SuperMismatch = codes "super-mismatch"
+rule_word ExnOpen = codes "exn-open"
+rule_word ExnResults = codes "exn-results"
+rule_word ExnFields = codes "exn-fields"
 
 -- `InvalidModule: group 0 member 1: forward`
 abbrev pub invalid_module_text : Place → Rule → List ℕ

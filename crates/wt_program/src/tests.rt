@@ -1,5 +1,7 @@
 //! Rows of the program: what it answers and writes, over sources and sinks in memory.
 
+mod rules;
+
 use crate::decode::decode;
 use crate::read::LIMIT;
 use crate::run::run;

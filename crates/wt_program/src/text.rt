@@ -114,6 +114,12 @@ fn rule_word(rule: Rule) -> &'static str
         Rule::Forward => "forward",
         Rule::SuperOrder => "super-order",
         Rule::Kind => "kind",
+        Rule::SuperFinal => "super-final",
+        Rule::SuperKind => "super-kind",
+        Rule::SuperMismatch => "super-mismatch",
+        Rule::ExnOpen => "exn-open",
+        Rule::ExnResults => "exn-results",
+        Rule::ExnFields => "exn-fields",
     }
 }
 
@@ -330,6 +336,30 @@ mod tests {
             (
                 Rule::Kind,
                 "refused InvalidModule: group 1 member 2: kind\n",
+            ),
+            (
+                Rule::SuperFinal,
+                "refused InvalidModule: group 1 member 2: super-final\n",
+            ),
+            (
+                Rule::SuperKind,
+                "refused InvalidModule: group 1 member 2: super-kind\n",
+            ),
+            (
+                Rule::SuperMismatch,
+                "refused InvalidModule: group 1 member 2: super-mismatch\n",
+            ),
+            (
+                Rule::ExnOpen,
+                "refused InvalidModule: group 1 member 2: exn-open\n",
+            ),
+            (
+                Rule::ExnResults,
+                "refused InvalidModule: group 1 member 2: exn-results\n",
+            ),
+            (
+                Rule::ExnFields,
+                "refused InvalidModule: group 1 member 2: exn-fields\n",
             ),
         ];
         for (rule, want) in rows {
