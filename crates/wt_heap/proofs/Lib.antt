@@ -1,0 +1,3 @@
+pub mod ChainedMatches
+pub mod EqualTypes
+pub mod KnownTypes

@@ -1,0 +1,8 @@
+-- Matches of reference types follow on each other.
+use Rattle.wt_heap.proofs.ChainedMatches.{ref-chained}
+use Rattle.wt_heap.proofs.laws.ref_transitive.Goals as goal
+
+pub returns-clause-law : goal.returns-clause-law
+returns-clause-law g c =
+    ref-chained (g.S.Supers.types c.args.supers.now) c.args.first.now c.args.second.now c.args.third.now c.matches.result c.matches-2.result c.matches-3.result
+    c.matches.ensures c.matches-2.ensures c.matches-3.ensures
