@@ -3,3 +3,5 @@ pub mod Referring
 pub mod Functions
 pub mod ShownRules
 pub mod KeptRules
+pub mod KnownHosts
+pub mod Unchanging

@@ -27,7 +27,7 @@ use Rattle.wt_tree.proofs.FitReading.{Side, Agree, equal-changed, shape-changed}
 use Rattle.wt_tree.proofs.KnownParts.{among_first}
 use Rattle.wt_tree.proofs.ShownSupertypes.{supertype-among}
 use Rattle.wt_rules.specs.declared.place.Rule.TheVariants as rule
-use Rattle.wt_rules.specs.TypeRules.{kind_of_tree, is_other, names_other, breaks_kind, is_final_type, matches_shape, broken_below, broken_supertype, function_of, exception_of, function_at, is_open, gives_results, constant_field, broken_by_function, broken_exception, broken_by, broken_type}
+use Rattle.wt_rules.specs.TypeRules.{kind_of_tree, is_other, names_other, breaks_kind, is_final_type, matches_shape, broken_below, broken_supertype, function_of, exception_of, function_at, is_open, gives_results, constant_field, broken_by_function, broken_exception, broken_by, broken_type, are_params}
 
 none_some : {A : Type 0} {x : A} → None ≡ Some x → ⊥
 none_some is = false≢true (ap is_some is)
@@ -163,7 +163,7 @@ module _ (types : VMSharedTypeIndex → Option ClosedTree) where
   abbrev shown_side : (t : ClosedTree) (ty : WasmSubType) → Shows types t ty → Side
   shown_side t ty shows = record { change = shows.shown; read = named_by types; read_before = tree_at t.tree }
 
-  final-shown : (s : ClosedTree) (other : WasmSubType) → Shows types s other → is_final_type s ≡ other.is_final
+  pub final-shown : (s : ClosedTree) (other : WasmSubType) → Shows types s other → is_final_type s ≡ other.is_final
   final-shown s other shows =
       ap (λ (found : Option WasmSubType). option_map_or (λ (ty : WasmSubType). ty.is_final) found false) shows.stands
       ∙ sym (ap (λ (ty : WasmSubType). ty.is_final) shows.is_shown)
@@ -173,7 +173,7 @@ module _ (types : VMSharedTypeIndex → Option ClosedTree) where
       ap (option_map member_kind) shows.stands
       ∙ ap Some (sym (ap member_kind shows.is_shown ∙ member_kind-changed shows.shown shows.member))
 
-  match-shown : (ty : WasmSubType) (s : ClosedTree) (other : WasmSubType) → Shows types s other
+  pub match-shown : (ty : WasmSubType) (s : ClosedTree) (other : WasmSubType) → Shows types s other
       → matches_shape (named_by types) ty s ≡ shape_fits (named_by types) (named_by types) ty.composite_type other.composite_type
   match-shown ty s other shows =
       ap (λ (found : Option WasmSubType). option_map_or (λ (o : WasmSubType). shape_fits (named_by types) (tree_at s.tree) ty.composite_type o.composite_type) found false) shows.stands
@@ -198,13 +198,15 @@ module _ (types : VMSharedTypeIndex → Option ClosedTree) where
       else if fit t then None
       else Some rule.SuperMismatch
 
-  -- a function that is shown
-  pub function-shown : (fields : List WasmFieldType) (t : ClosedTree) (ty : WasmSubType) (func : WasmFuncType) → Shows types t ty → ty.composite_type ≡ shape.Func func
-      → broken_by_function (named_by types) fields t
-      ≡ (if nat_lt 0 (length func.results) then Some rule.ExnResults
-      else if fields_equal (named_by types) (named_by types) fields (map constant_field func.params) then None
-      else Some rule.ExnFields)
-  function-shown fields t ty func shows is = by shows.member.composite_type refl (sym (ap (λ (s : WasmSubType). s.composite_type) shows.is_shown) ∙ is)
+  -- what a function that is shown says of its closed tree: how many results it has, and whether these fields hold its
+  -- parameters
+  pub record FunctionShown (fields : List WasmFieldType) (t : ClosedTree) (func : WasmFuncType) : Type 0 where
+    pub count : option_map_or (λ (f : WasmFuncType). length f.results) (function_at t) 0 ≡ length func.results
+    pub gives : gives_results t ≡ nat_lt 0 (length func.results)
+    pub params : are_params (named_by types) fields t ≡ fields_equal (named_by types) (named_by types) fields (map constant_field func.params)
+
+  pub function-told : (fields : List WasmFieldType) (t : ClosedTree) (ty : WasmSubType) (func : WasmFuncType) → Shows types t ty → ty.composite_type ≡ shape.Func func → FunctionShown fields t func
+  function-told fields t ty func shows is = by shows.member.composite_type refl (sym (ap (λ (s : WasmSubType). s.composite_type) shows.is_shown) ∙ is)
     where
       at : (s : WasmCompositeInnerType) → shows.member.composite_type ≡ s → function_at t ≡ function_of s
       at s e = ap (option_and_then (λ (m : WasmSubType). function_of m.composite_type)) shows.stands ∙ ap function_of e
@@ -216,33 +218,45 @@ module _ (types : VMSharedTypeIndex → Option ClosedTree) where
           let shaped = subst (λ (s : WasmCompositeInnerType). Among i (indices_of (kinded_shape s))) (sym e) own in
           shows.names i (among_behind (option_to_list shows.member.supertype) (indices_of (kinded_refs shows.member)) i shaped)
 
-      by : (s : WasmCompositeInnerType) → shows.member.composite_type ≡ s → map_shape_refs shows.shown s ≡ shape.Func func
-          → broken_by_function (named_by types) fields t
-          ≡ (if nat_lt 0 (length func.results) then Some rule.ExnResults
-          else if fields_equal (named_by types) (named_by types) fields (map constant_field func.params) then None
-          else Some rule.ExnFields)
+      by : (s : WasmCompositeInnerType) → shows.member.composite_type ≡ s → map_shape_refs shows.shown s ≡ shape.Func func → FunctionShown fields t func
       by (shape.Func f) e same =
           let mapped = some_same (ap function_of same) in
           let found = at (shape.Func f) e in
           let results : length f.results ≡ length func.results = sym (length-map f.results (map_val_refs shows.shown)) ∙ ap (λ (g : WasmFuncType). length g.results) mapped in
-          let params =
-          (λ k. fields_equal (named_by types) (named_by types) (sym (fields-none fields) k) (map constant_field (sym mapped k).params))
-          ∙ (λ k. fields_equal (named_by types) (named_by types) (map_fields_refs (λ i. i) fields) (sym (constant-changed shows.shown f.params) k))
-          ∙ equal-changed (same_side (named_by types)) (shown_side t ty shows) fields (map constant_field f.params) (λ i at. refl) (named f e) in
-          (λ k. if option_map_or (λ (g : WasmFuncType). nat_lt 0 (length g.results)) (found k) false then Some rule.ExnResults
-          else if option_map_or (λ (g : WasmFuncType). fields_equal (named_by types) (tree_at t.tree) fields (map constant_field g.params)) (found k) false then None
-          else Some rule.ExnFields)
-          ∙ (λ k. if nat_lt 0 (results k) then Some rule.ExnResults else if sym params k then None else Some rule.ExnFields)
+          record {
+            count = ap (λ (o : Option WasmFuncType). option_map_or (λ (g : WasmFuncType). length g.results) o 0) found ∙ results;
+            gives = ap (λ (o : Option WasmFuncType). option_map_or (λ (g : WasmFuncType). nat_lt 0 (length g.results)) o false) found ∙ ap (nat_lt 0) results;
+            params =
+                ap (λ (o : Option WasmFuncType). option_map_or (λ (g : WasmFuncType). fields_equal (named_by types) (tree_at t.tree) fields (map constant_field g.params)) o false) found
+                ∙ sym (
+                (λ k. fields_equal (named_by types) (named_by types) (sym (fields-none fields) k) (map constant_field (sym mapped k).params))
+                ∙ (λ k. fields_equal (named_by types) (named_by types) (map_fields_refs (λ i. i) fields) (sym (constant-changed shows.shown f.params) k))
+                ∙ equal-changed (same_side (named_by types)) (shown_side t ty shows) fields (map constant_field f.params) (λ i at. refl) (named f e));
+          }
       by (shape.Struct s) e same = absurd (none_some (ap function_of same))
       by (shape.Array a) e same = absurd (none_some (ap function_of same))
       by (shape.Exn x) e same = absurd (none_some (ap function_of same))
       by (shape.Cont c) e same = absurd (none_some (ap function_of same))
 
+  -- the first rule that fields break, by a function that is shown
+  pub function-shown : (fields : List WasmFieldType) (t : ClosedTree) (ty : WasmSubType) (func : WasmFuncType) → Shows types t ty → ty.composite_type ≡ shape.Func func
+      → broken_by_function (named_by types) fields t
+      ≡ (if nat_lt 0 (length func.results) then Some rule.ExnResults
+      else if fields_equal (named_by types) (named_by types) fields (map constant_field func.params) then None
+      else Some rule.ExnFields)
+  function-shown fields t ty func shows is =
+      let told = function-told fields t ty func shows is in
+      let gives = told.gives in
+      let params = told.params in
+      λ k. if gives k then Some rule.ExnResults else if params k then None else Some rule.ExnFields
+
+  -- a closed tree that is shown breaks what is shown
+  pub broken-of : (t : ClosedTree) (ty : WasmSubType) → Shows types t ty → broken_by (named_by types) ty ≡ broken_type t
+  broken-of t ty shows =
+      ap (broken_by (named_by types)) shows.is_shown
+      ∙ broken-changed (shown_side t ty shows) shows.member shows.names
+      ∙ sym (ap (option_and_then (broken_by (tree_at t.tree))) shows.stands)
+
   -- the type of an index
   pub broken-shown : (i : VMSharedTypeIndex) (ty : WasmSubType) → ShowsAt types i ty → broken_by (named_by types) ty ≡ broken_type (unwrap_or (types i) no_tree)
-  broken-shown i ty here =
-      let shows = here.2 in
-      ap (broken_by (named_by types)) shows.is_shown
-      ∙ broken-changed (shown_side here.0 ty shows) shows.member shows.names
-      ∙ sym (ap (option_and_then (broken_by (tree_at here.0.tree))) shows.stands)
-      ∙ ap broken_type (sym (ap (λ (found : Option ClosedTree). unwrap_or found no_tree) here.1))
+  broken-shown i ty here = broken-of here.0 ty here.2 ∙ ap broken_type (sym (ap (λ (found : Option ClosedTree). unwrap_or found no_tree) here.1))

@@ -1,2 +1,4 @@
 pub mod TypeRules
+pub mod RuleTexts
+pub mod HostTypes
 pub mod Rules

@@ -2,6 +2,7 @@
 //! knows the types of indices; nothing here knows of a registry.
 #![tactic(auto)]
 
+pub mod host_types;
 mod kinds;
 pub mod place;
 pub mod rules;

@@ -1,5 +1,7 @@
 //! Where a module breaks a rule, and which.
 
+use std::fmt;
+
 /// Where a module breaks a rule.
 #[derive(Clone, Copy, Debug, PartialEq, Eq)]
 pub enum Place {
@@ -35,4 +37,38 @@ pub enum Rule {
     ExnResults,
     /// The fields of an exception are constant, and hold its function's parameters (after wasmtime).
     ExnFields,
+}
+
+impl fmt::Display for Place {
+    ghost use Rattle.std.specs.Prelude.{Some};
+    ghost use Rattle.wt_rules.specs.RuleTexts.{place_text};
+
+    ghost output = { λ place. Some (place_text place) };
+
+    fn fmt<W: fmt::Write>(&self, f: &mut fmt::Formatter<W>) -> fmt::Result {
+        match self {
+            Place::Member { group, member } => write!(f, "group {group} member {member}"),
+        }
+    }
+}
+
+impl fmt::Display for Rule {
+    ghost use Rattle.std.specs.Prelude.{Some};
+    ghost use Rattle.wt_rules.specs.RuleTexts.{rule_word};
+
+    ghost output = { λ rule. Some (rule_word rule) };
+
+    fn fmt<W: fmt::Write>(&self, f: &mut fmt::Formatter<W>) -> fmt::Result {
+        match self {
+            Rule::Forward => write!(f, "forward"),
+            Rule::SuperOrder => write!(f, "super-order"),
+            Rule::Kind => write!(f, "kind"),
+            Rule::SuperFinal => write!(f, "super-final"),
+            Rule::SuperKind => write!(f, "super-kind"),
+            Rule::SuperMismatch => write!(f, "super-mismatch"),
+            Rule::ExnOpen => write!(f, "exn-open"),
+            Rule::ExnResults => write!(f, "exn-results"),
+            Rule::ExnFields => write!(f, "exn-fields"),
+        }
+    }
 }

@@ -107,7 +107,8 @@ pub fn are_countable(types: &ModuleTypes) -> bool
     groups.len() <= u32::MAX as usize && has_few_members(groups)
 }
 
-fn is_function(ty: &WasmSubType) -> bool
+/// Whether a type is a function.
+pub fn is_function(ty: &WasmSubType) -> bool
     ensures { result ≡ stated.is_function ty.now }
 {
     is_same_kind(Kind::Func, kind_of(&ty.composite_type))

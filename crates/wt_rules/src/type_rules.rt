@@ -23,7 +23,7 @@ use wt_tree::fit::{fit_field, fit_shape};
 use wt_tree::supers::Types;
 
 /// The sub type that a type index names.
-fn type_at<T: Types>(types: &T, named: EngineOrModuleTypeIndex) -> Option<&WasmSubType>
+pub(crate) fn type_at<T: Types>(types: &T, named: EngineOrModuleTypeIndex) -> Option<&WasmSubType>
     ensures shows { IfSome result (λ ty. Shows (T.types types.now) (named_by (T.types types.now) named) ty.now) }
     ensures none { result ≡ None → member_at (named_by (T.types types.now) named) ≡ None }
 {
@@ -44,7 +44,7 @@ fn kind_at<T: Types>(types: &T, named: EngineOrModuleTypeIndex) -> Option<Kind>
 }
 
 /// Whether a type index names a type of another kind than this, or none.
-fn names_other<T: Types>(types: &T, wanted: Kind, named: EngineOrModuleTypeIndex) -> bool
+pub(crate) fn names_other<T: Types>(types: &T, wanted: Kind, named: EngineOrModuleTypeIndex) -> bool
     ensures { result ≡ stated.names_other (named_by (T.types types.now)) wanted named }
 {
     match kind_at(types, named) {
@@ -67,7 +67,7 @@ impl<'a, T: Types> ReferenceTest for NamesOther<'a, T> {
     }
 }
 
-fn breaks_kind<T: Types>(types: &T, ty: &WasmSubType) -> bool
+pub(crate) fn breaks_kind<T: Types>(types: &T, ty: &WasmSubType) -> bool
     ensures { result ≡ stated.breaks_kind (named_by (T.types types.now)) ty.now }
 {
     any_of_shape(&NamesOther { types }, &ty.composite_type)
@@ -127,7 +127,11 @@ fn is_param<T: Types>(types: &T, field: &WasmFieldType, param: WasmValType) -> b
 }
 
 /// Whether these fields are those that hold parameters of these types.
-fn are_params<T: Types>(types: &T, fields: &[WasmFieldType], params: &[WasmValType]) -> bool
+pub(crate) fn are_params<T: Types>(
+    types: &T,
+    fields: &[WasmFieldType],
+    params: &[WasmValType],
+) -> bool
     requires fields { AreKnown (T.types types.now) (indices_of (kinded.kinded_fields fields.now)) }
     requires params { AreKnown (T.types types.now) (indices_of (kinded.kinded_vals params.now)) }
     ensures { result ≡ fits.fields_equal (named_by (T.types types.now)) (named_by (T.types types.now)) fields.now (map constant params.now) }
@@ -166,7 +170,7 @@ fn broken_by_function<T: Types>(
 }
 
 /// Whether a type may have subtypes, or has a supertype.
-fn is_open(ty: &WasmSubType) -> bool
+pub(crate) fn is_open(ty: &WasmSubType) -> bool
     ensures { result ≡ stated.is_open ty.now }
 {
     !ty.is_final || ty.supertype.is_some()
