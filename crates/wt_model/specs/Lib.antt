@@ -10,6 +10,8 @@ pub mod Holds
 pub mod FunctionIndices
 pub mod Plan
 pub mod Limits
+pub mod HostRefusals
+pub mod RefusalTexts
 pub mod Registration
 pub mod Removal
 pub mod Sound

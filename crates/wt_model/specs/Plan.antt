@@ -13,7 +13,7 @@ use Rattle.wt_model.specs.Registered.{RegisteredGroup, Registry}
 use Rattle.wt_model.specs.Indices.{used, assign_shared_type_indices}
 use Rattle.wt_model.specs.Describe.{describe, tree_of, find_tree}
 use Rattle.wt_model.specs.Trampolines.{trampoline_numbers}
-use Rattle.wt_model.specs.Reach.{edges}
+use Rattle.wt_model.specs.Reach.{edges, Reach}
 
 -- The groups that are registered, those that are new from the oldest on, how much was ever registered with
 -- them, the registration number of the group of each occurrence, and the index of each type so far.
@@ -96,8 +96,7 @@ abbrev pub plan_groups : Plan → List WasmRecGroup → Plan
 plan_groups plan [] = plan
 plan_groups plan (group ∷ groups) = plan_groups (plan_group plan group) groups
 
--- Each new group occurs, or a group that occurs leads to it; and what occurs is registered or new.
+-- Edges lead to each new group from one that occurs; and what occurs is registered or new.
 pub record Occurs (plan : Plan) : Type 0 where
-  pub every : (group : RegisteredGroup) → Among group plan.added
-      → (by : RegisteredGroup) × Among by (groups_of plan) × Among by.number plan.numbers × ((group.number ≡ by.number) ⊎ Among group.number (edges by))
+  pub every : (group : RegisteredGroup) → Among group plan.added → (n : ℕ) × Among n plan.numbers × Reach (groups_of plan) n group.number
   pub only : (number : ℕ) → Among number plan.numbers → (group : RegisteredGroup) × Among group (groups_of plan) × (group.number ≡ number)

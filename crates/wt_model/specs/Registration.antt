@@ -9,12 +9,15 @@ use Rattle.wt_tree.specs.Tree.{ClosedTree}
 use Rattle.wt_tree.specs.ModuleTree.{module_trees}
 use Rattle.wt_rules.specs.declared.place.Place.{Place}
 use Rattle.wt_rules.specs.declared.place.Rule.{Rule}
+use Rattle.wt_rules.specs.HostTypes.{host_breach}
 use Rattle.wt_rules.specs.Rules.{first_broken, is_function, are_functions}
 use Rattle.wt_model.specs.declared.handle_kind.HandleKind.{HandleKind}
 use Rattle.wt_model.specs.declared.refusal.BuildRefusal.{BuildRefusal}
 use Rattle.wt_model.specs.declared.refusal.BuildRefusal.TheVariants as refusal
 use Rattle.wt_model.specs.Registered.{RegisteredGroup, GroupHolds, Registry}
 use Rattle.wt_model.specs.Describe.{tree_of}
+use Rattle.wt_model.specs.HostRefusals.{breach_refusal}
+use Rattle.wt_model.specs.Indices.{closed_tree}
 use Rattle.wt_model.specs.Trampolines.{trampolines_of}
 use Rattle.wt_model.specs.Reach.{edges}
 use Rattle.wt_model.specs.Holds.{Hold, Collection, stop_waiting, hold_each}
@@ -41,10 +44,10 @@ registration_plan registry (module_groups groups) = plan_groups (empty_plan regi
 abbrev pub invalid_module : Place × Rule → BuildRefusal
 invalid_module broken = refusal.InvalidModule broken.0 broken.1
 
--- the first rule of module types that is broken
-abbrev pub rule_refusal : Registration → Option BuildRefusal
-rule_refusal (host_type ty) = None
-rule_refusal (module_groups groups) = option_map invalid_module (first_broken groups)
+-- the first cause by the type of a host, or by the first rule of module types that is broken
+abbrev pub rule_refusal : Registry → Registration → Option BuildRefusal
+rule_refusal registry (host_type ty) = option_map breach_refusal (host_breach (closed_tree registry.made) ty)
+rule_refusal registry (module_groups groups) = option_map invalid_module (first_broken groups)
 
 -- whether it has functions alone
 abbrev pub has_functions_alone : Registration → Bool
@@ -59,11 +62,11 @@ gc_refusal registry registration = if registry.engine.gc || has_functions_alone 
 abbrev pub limit_refusal : Registry → ℕ → Registration → Option BuildRefusal
 limit_refusal registry party registration = option_map refusal.Full (passed_limit registry party (registration_plan registry registration))
 
--- The first cause for which a registration by a party below the limit is refused, if there is one: a broken
--- rule, then no garbage collection, then a limit.
+-- The first cause for which a registration by a party below the limit is refused, if there is one: what a type of a
+-- host breaks, or a broken rule of a module, then no garbage collection, then a limit.
 abbrev pub registration_refusal : Registry → ℕ → Registration → Option BuildRefusal
 registration_refusal registry party registration =
-    option_or (rule_refusal registration) (option_or (gc_refusal registry registration) (limit_refusal registry party registration))
+    option_or (rule_refusal registry registration) (option_or (gc_refusal registry registration) (limit_refusal registry party registration))
 
 -- A registration as a command asks for it: the party whose command it is, the handles that it names, in the
 -- order of its keys and with the kind that each has to be of, and what is to be registered.

@@ -29,6 +29,11 @@ pub reach_joined : (made : List RegisteredGroup) (a b c : ℕ) → Reach made a 
 reach_joined made a b c first here = first
 reach_joined made a b c first (further to next reach edge) = further to next (reach_joined made a b to first reach) edge
 
+-- a group leads to itself, and to what its edges name
+pub reach-led : (made : List RegisteredGroup) (by : RegisteredGroup) (n : ℕ) → Among by made → (n ≡ by.number) ⊎ Among n (edges by) → Reach made by.number n
+reach-led made by n there (inl same) = subst (Reach made by.number) (sym same) here
+reach-led made by n there (inr leads) = further by.number n here (by, there, refl, leads)
+
 -- ---- one edge
 
 led-told : (numbers : List ℕ) (number : ℕ) → list_any (λ n. n == number) numbers ≡ true → Among number numbers

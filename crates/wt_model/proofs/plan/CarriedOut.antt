@@ -23,11 +23,6 @@ use Rattle.wt_model.proofs.holds.Zeros.{slice_index-zeros}
 
 -- ---- paths
 
--- a group leads to itself, and to what its edges name
-pub reach-led : (made : List RegisteredGroup) (by : RegisteredGroup) (n : ℕ) → Among by made → (n ≡ by.number) ⊎ Among n (edges by) → Reach made by.number n
-reach-led made by n there (inl same) = subst (Reach made by.number) (sym same) here
-reach-led made by n there (inr leads) = further by.number n here (by, there, refl, leads)
-
 -- a path within older groups, or one that enters them by an edge of a newer one
 pub reach_from : (made more : List RegisteredGroup) (root number : ℕ) → Reach (made ++ more) root number
     → Reach made root number ⊎ ((g : RegisteredGroup) × (n : ℕ) × Among g more × Among n (edges g) × Reach made n number)
@@ -110,8 +105,7 @@ pub record CanCarryOut (engine : EngineParts) (made added : List RegisteredGroup
   pub more_rising : IsRising 0 (made ++ added) more_top
   pub more_older : NamesOlder (made ++ added)
   pub holds : HoldsInvariant engine made standings
-  pub every : (group : RegisteredGroup) → Among group added
-      → (by : RegisteredGroup) × Among by (made ++ added) × Among by.number numbers × ((group.number ≡ by.number) ⊎ Among group.number (edges by))
+  pub every : (group : RegisteredGroup) → Among group added → (n : ℕ) × Among n numbers × Reach (made ++ added) n group.number
   pub only : (number : ℕ) → Among number numbers → (group : RegisteredGroup) × Among group (made ++ added) × (group.number ≡ number)
   pub within : party < engine.limits.parties
   pub room : (number : ℕ) → held_at standings party number + times number numbers ≤ engine.limits.holds
@@ -187,11 +181,7 @@ module _ (engine : EngineParts) (made added : List RegisteredGroup) (standings :
   -- a new group is led to by one that is held
   new_led : (group : RegisteredGroup) → Among group added → (root : ℕ) × (is_root after root ≡ true) × Reach (made ++ added) root group.number
   new_led group at =
-      let found = can.every group at in (
-        (found.0).number,
-        held-each engine party numbers middle (found.0).number can_hold found.2,
-        reach-led (made ++ added) found.0 group.number found.1 found.3,
-      )
+      let found = can.every group at in (found.0, held-each engine party numbers middle found.0 can_hold found.1, found.2)
 
   is_reached_still : (m : RegisteredGroup) → Among m made ⊎ Among m added → is_reached (made ++ added) (is_root after) m.number ≡ true
   is_reached_still m (inr new) =

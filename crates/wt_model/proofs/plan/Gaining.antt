@@ -8,8 +8,7 @@ use Rattle.wt_model.specs.Plan.{Plan}
 use Rattle.wt_model.specs.Registration.{carried_out}
 use Rattle.wt_model.specs.Changes.{HoldChanges}
 use Rattle.wt_model.proofs.plan.StopWaiting.{still-stop_waiting_each}
-use Rattle.wt_model.specs.Reach.{Reach}
-use Rattle.wt_model.proofs.plan.CarriedOut.{CanCarryOut, reach-led, middle, middle_sized, middle_stands, middle_held, still_waiting}
+use Rattle.wt_model.proofs.plan.CarriedOut.{CanCarryOut, middle, middle_sized, middle_stands, middle_held, still_waiting}
 use Rattle.wt_model.proofs.holds.HeldEach.{places-held}
 use Rattle.wt_model.proofs.holds.HoldChanges.{held_at-one_more}
 use Rattle.wt_model.proofs.holds.Looked.{numbers-change}
@@ -46,18 +45,13 @@ pub carried-changes : (registry : Registry) (party : ℕ) (plan : Plan) → plan
 carried-changes registry party plan same can = record {
   engine = refl;
   registered = can.only;
-  made = (plan.added, ap (λ (made : List RegisteredGroup). made ++ plan.added) same, led);
+  made = (plan.added, ap (λ (made : List RegisteredGroup). made ++ plan.added) same, can.every);
   more = λ n. held_at-each party plan.numbers between n stands places ∙ ap (λ held. held + times n plan.numbers) (kept party n);
   others = λ p n other. held_at-each-other party plan.numbers between p n other ∙ kept p n;
   located = λ i n is. located-pushed plan.registered plan.added i n (subst (λ (made : List RegisteredGroup). number_of made i ≡ Some n) (sym same) is);
   waiting = λ n at. waited n (waiting-stands (hold_each party plan.numbers between) n at);
 }
   where
-    led : (group : RegisteredGroup) → Among group plan.added → (n : ℕ) × Among n plan.numbers × Reach (plan.registered ++ plan.added) n group.number
-    led group at =
-        let found = can.every group at in
-        ((found.0).number, found.2, reach-led (plan.registered ++ plan.added) found.0 group.number found.1 found.3)
-
     between : List GroupHolds
     between = middle registry.engine plan.registered plan.added registry.standings party plan.numbers can
 
