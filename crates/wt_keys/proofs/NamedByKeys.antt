@@ -28,7 +28,7 @@ use Rattle.wt_keys.specs.Keys.{named_at, ResolvesTo, KeyNamesSlot, KeyNamesEarli
 -- ---- the numbered members, with their slots filled in
 
 -- a numbered member, filled in, is one of the key
-filled : (types : List WasmSubType) (ty : WasmSubType) → Among ty (number_group types) → Among (map_sub_refs (fill_index (group_refs types)) ty) types
+pub filled : (types : List WasmSubType) (ty : WasmSubType) → Among ty (number_group types) → Among (map_sub_refs (fill_index (group_refs types)) ty) types
 filled types ty at =
     let fill = fill_index (group_refs types) in
     subst (Among (map_sub_refs fill ty)) (refill_group types) (among_mapped (map_sub_refs fill) (number_group types) ty at)
@@ -64,7 +64,7 @@ never_engine i (index.Engine j) same = absurd (cc)
 never_engine i (index.Module j) same = absurd (cc)
 never_engine i (index.RecGroup k) same = absurd (cc)
 
-no_engine : (types : List WasmSubType) (ty : WasmSubType) (i : VMSharedTypeIndex) → Among ty (number_group types) → Among (index.Engine i) (type_indices ty) → ⊥
+pub no_engine : (types : List WasmSubType) (ty : WasmSubType) (i : VMSharedTypeIndex) → Among ty (number_group types) → Among (index.Engine i) (type_indices ty) → ⊥
 no_engine types ty i at there =
     let others = map_group_refs without_engine types in
     let fill = fill_index (group_refs others) in

@@ -13,3 +13,4 @@ pub mod PlannedTrees
 pub mod RulesKept
 pub mod CheckedGroups
 pub mod PlannedGroups
+pub mod HostReferences

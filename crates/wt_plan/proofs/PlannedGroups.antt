@@ -19,10 +19,11 @@ use Rattle.wt_rules.proofs.KeptRules.{total_members-more}
 use Rattle.wt_rules.proofs.ModuleReferences.{leaving-module}
 use Rattle.wt_model.specs.Registered.{RegisteredGroup}
 use Rattle.wt_model.specs.Indices.{closed_tree}
-use Rattle.wt_model.specs.Reach.{edges}
+use Rattle.wt_model.specs.Reach.{edges, Reach}
 use Rattle.wt_model.specs.Sound.{KeepRules}
 use Rattle.wt_model.specs.Plan.{Plan, Occurs, plan_group, plan_groups}
 use Rattle.wt_model.proofs.Trampolines.{told-among}
+use Rattle.wt_model.proofs.holds.Leads.{reach_wider, reach-led}
 use Rattle.wt_keys.specs.declared.entry.RecGroupEntry.{RecGroupEntry}
 use Rattle.wt_keys.specs.Entries.{made_of, made_by}
 use Rattle.wt_keys.specs.Keys.{AreKeys, AreShown}
@@ -34,10 +35,9 @@ use Rattle.wt_plan.proofs.NewIndices.{new_below-none}
 use Rattle.wt_plan.proofs.PlannedTrees.{all-named}
 use Rattle.wt_plan.proofs.Planning.{groups_of-joined}
 
--- each new entry occurs, or one that occurs leads to it; and what occurs stands or is new
+-- edges lead to each new entry from one that occurs; and what occurs stands or is new
 pub record EntriesOccur (all added : List RecGroupEntry) (numbers : List ℕ) : Type 0 where
-  pub every : (entry : RecGroupEntry) → Among entry added
-      → (by : RecGroupEntry) × Among by all × Among by.number numbers × ((entry.number ≡ by.number) ⊎ Among (Some entry.number) by.trampolines)
+  pub every : (entry : RecGroupEntry) → Among entry added → (n : ℕ) × Among n numbers × Reach (made_by all) n entry.number
   pub only : (number : ℕ) → Among number numbers → (entry : RecGroupEntry) × Among entry all × (entry.number ≡ number)
 
 -- what is true of a plan of the groups so far
@@ -62,6 +62,14 @@ among-grown : (entries before more after : List RecGroupEntry) (e : RecGroupEntr
 among-grown entries before more after e same at =
     subst (Among e) (append_assoc entries before more ∙ ap (λ (added : List RecGroupEntry). entries ++ added) (sym same)) (among_before (entries ++ before) more e at)
 
+-- an entry leads to itself, and to what it tells as a trampoline
+pub reach-entry : (all : List RecGroupEntry) (by : RecGroupEntry) (n : ℕ) → Among by all → (n ≡ by.number) ⊎ Among (Some n) by.trampolines → Reach (made_by all) by.number n
+reach-entry all by n at leads = reach-led (made_by all) (made_of by) n (among_mapped made_of all by at) (edge leads)
+  where
+    edge : (n ≡ by.number) ⊎ Among (Some n) by.trampolines → (n ≡ by.number) ⊎ Among n (edges (made_of by))
+    edge (inl same) = inl same
+    edge (inr told) = inr (among_behind (map (λ (r : ℕ × ℕ). r.0) by.outer) (filter_map (λ (number : Option ℕ). number) by.trampolines) n (told-among n by.trampolines told))
+
 -- what occurs where one more was planned
 pub occurs-more : (entries : List RecGroupEntry) (before after : PlanFields) (types : List WasmSubType) → EntriesOccur (entries ++ before.added.items) before.added.items before.numbers.items → PlansOne entries before after types
     → EntriesOccur (entries ++ after.added.items) after.added.items after.numbers.items
@@ -79,29 +87,31 @@ occurs-more entries before after types occurs one = record {
     own : Among one.entry.number after.numbers.items
     own = subst (Among one.entry.number) (sym one.numbers) (among_last before.numbers.items one.entry.number)
 
-    every : (e : RecGroupEntry) → Among e before.added.items ⊎ Among e one.more
-        → (by : RecGroupEntry) × Among by (entries ++ after.added.items) × Among by.number after.numbers.items × ((e.number ≡ by.number) ⊎ Among (Some e.number) by.trampolines)
-    every e (inl old) = let was = occurs.every e old in (was.0, wider was.0 was.1, counted (was.0).number was.2, was.3)
-    every e (inr new) = (one.entry, one.stands, own, one.led e new)
+    made_wider : (g : RegisteredGroup) → Among g (made_by (entries ++ before.added.items)) → Among g (made_by (entries ++ after.added.items))
+    made_wider g at =
+        let e = among_map made_of (entries ++ before.added.items) g at in
+        subst (λ (m : RegisteredGroup). Among m (made_by (entries ++ after.added.items))) (sym e.2) (among_mapped made_of (entries ++ after.added.items) e.0 (wider e.0 e.1))
+
+    every : (e : RecGroupEntry) → Among e before.added.items ⊎ Among e one.more → (n : ℕ) × Among n after.numbers.items × Reach (made_by (entries ++ after.added.items)) n e.number
+    every e (inl old) =
+        let was = occurs.every e old in
+        (was.0, counted was.0 was.1, reach_wider (made_by (entries ++ before.added.items)) (made_by (entries ++ after.added.items)) made_wider was.0 e.number was.2)
+    every e (inr new) = (one.entry.number, own, reach-entry (entries ++ after.added.items) one.entry e.number one.stands (one.led e new))
 
     only : (n : ℕ) → Among n before.numbers.items ⊎ (n ≡ one.entry.number) → (entry : RecGroupEntry) × Among entry (entries ++ after.added.items) × (entry.number ≡ n)
     only n (inl old) = let was = occurs.only n old in (was.0, wider was.0 was.1, was.2)
     only n (inr same) = (one.entry, one.stands, sym same)
 
 -- the same of the groups
-led : (n : ℕ) (by : RecGroupEntry) → (n ≡ by.number) ⊎ Among (Some n) by.trampolines → (n ≡ by.number) ⊎ Among n (edges (made_of by))
-led n by (inl same) = inl same
-led n by (inr told) = inr (among_behind (map (λ (r : ℕ × ℕ). r.0) by.outer) (filter_map (λ (number : Option ℕ). number) by.trampolines) n (told-among n by.trampolines told))
-
 pub occurs-groups : (entries : List RecGroupEntry) (plan : PlanFields) → EntriesOccur (entries ++ plan.added.items) plan.added.items plan.numbers.items → Occurs (plan_of entries plan)
 occurs-groups entries plan occurs = record {
   every = λ group at.
       let named = among_map made_of plan.added.items group at in
       let was = occurs.every named.0 named.1 in (
-        made_of was.0,
-        subst (Among (made_of was.0)) (sym (groups_of-joined entries plan)) (among_mapped made_of (entries ++ plan.added.items) was.0 was.1),
-        was.2,
-        subst (λ (m : RegisteredGroup). (m.number ≡ (was.0).number) ⊎ Among m.number (edges (made_of was.0))) (sym named.2) (led (named.0).number was.0 was.3),
+        was.0,
+        was.1,
+        subst (λ (made : List RegisteredGroup). Reach made was.0 group.number) (sym (groups_of-joined entries plan))
+            (subst (λ (m : RegisteredGroup). Reach (made_by (entries ++ plan.added.items)) was.0 m.number) (sym named.2) was.2),
       );
   only = λ number at.
       let found = occurs.only number at in

@@ -23,7 +23,7 @@ use Rattle.wt_rules.specs.TypeRules.{names_other, broken_below, broken_supertype
 use Rattle.wt_rules.proofs.ModuleReferences.{kinded_index}
 use Rattle.wt_model.specs.Registered.{RegisteredGroup}
 use Rattle.wt_model.specs.Trees.{trees}
-use Rattle.wt_model.specs.Indices.{locate}
+use Rattle.wt_model.specs.Indices.{locate, closed_tree}
 use Rattle.wt_model.specs.Describe.{tree_of}
 use Rattle.wt_model.specs.Sound.{KeepRules}
 use Rattle.wt_model.proofs.indices.Places.{IsAt, locate-at}
@@ -33,9 +33,13 @@ use Rattle.wt_keys.specs.Entries.{made_of, made_by}
 use Rattle.wt_keys.specs.Keys.{AreKeys}
 use Rattle.wt_keys.proofs.KeyTrees.{tree-of_key}
 use Rattle.wt_plan.specs.declared.plan.Plan.{Plan as PlanFields}
-use Rattle.wt_plan.specs.Planned.{AreNewKeys, IsAlone, PlansOne}
-use Rattle.wt_plan.proofs.GrownKeys.{closed_tree-grown}
-use Rattle.wt_plan.proofs.HostKeys.{no_index}
+use Rattle.wt_plan.specs.Planned.{AreResolved, AreNewKeys, IsAlone, PlansOne}
+use Rattle.wt_plan.proofs.GrownKeys.{closed_tree-grown, tree_of-grown}
+use Rattle.wt_plan.proofs.HostReferences.{known-resolved, host-shows}
+use Rattle.wt_rules.specs.HostTypes.{is_host_type, host_breach}
+use Rattle.wt_rules.proofs.KnownHosts.{host-parts, host-keeps}
+use Rattle.wt_rules.proofs.ShownRules.{broken-of}
+use Rattle.wt_rules.proofs.Unchanging.{no_index}
 use Rattle.wt_plan.proofs.PlannedTrampolines.{own-tree}
 
 -- ---- a trampoline alone
@@ -130,9 +134,33 @@ rules-one entries before after types keys keys_after one rules own =
         let stands : Among e (entries ++ after.added.items) = subst (Among e) joined (among_behind (entries ++ before.added.items) one.more e at) in
         rules-alone (entries ++ after.added.items) after.given.numbers e place keys_after stands alone
 
--- and where it is that of a trampoline alone
+-- and where it is that of one type of a host, which breaks nothing
+host-type : (made : List RegisteredGroup) (ty : WasmSubType) (place : ℕ) → is_host_type (closed_tree made) ty ≡ true → host_breach (closed_tree made) ty ≡ None
+    → broken_type (record { tree = tree_of made (ty ∷ []); place = place }) ≡ None
+host-type made ty zero is none =
+    sym (broken-of (closed_tree made) (record { tree = tree_of made (ty ∷ []); place = 0 }) ty (host-shows made ty (host-parts (closed_tree made) ty is).known))
+    ∙ host-keeps (closed_tree made) ty is none
+host-type made ty (suc place) is none = refl
+
 pub rules-host : (entries : List RecGroupEntry) (before after : PlanFields) (ty : WasmSubType) → AreKeys (entries ++ before.added.items) before.given.numbers → AreKeys (entries ++ after.added.items) after.given.numbers
-    → PlansOne entries before after (ty ∷ []) → is_own_trampoline ty ≡ true → KeepRules (made_by (entries ++ before.added.items)) → KeepRules (made_by (entries ++ after.added.items))
-rules-host entries before after ty keys keys_after one own rules =
+    → PlansOne entries before after (ty ∷ []) → is_host_type (closed_tree (made_by (entries ++ before.added.items))) ty ≡ true → host_breach (closed_tree (made_by (entries ++ before.added.items))) ty ≡ None
+    → KeepRules (made_by (entries ++ before.added.items)) → KeepRules (made_by (entries ++ after.added.items))
+rules-host entries before after ty keys keys_after one is none rules =
     rules-one entries before after (ty ∷ []) keys keys_after one rules
-    (λ place i is. rules-alone (entries ++ after.added.items) after.given.numbers one.entry place keys_after one.stands (ty, own, one.group))
+    (λ place i at. ap (λ (t : Tree). broken_type (record { tree = t; place = place })) tree ∙ host-type (made_by all) ty place is none)
+  where
+    all : List RecGroupEntry
+    all = entries ++ before.added.items
+
+    resolved : AreResolved (made_by all) (ty ∷ [])
+    resolved = known-resolved (made_by all) ty (host-parts (closed_tree (made_by all)) ty is).known
+
+    joined : all ++ one.more ≡ entries ++ after.added.items
+    joined = append_assoc entries before.added.items one.more ∙ ap (λ (added : List RecGroupEntry). entries ++ added) (sym one.plans.added)
+
+    tree : trees (made_by (entries ++ after.added.items)) one.entry.number ≡ tree_of (made_by all) (ty ∷ [])
+    tree =
+        tree-of_key (entries ++ after.added.items) after.given.numbers one.entry keys_after one.stands
+        ∙ ap (tree_of (made_by (entries ++ after.added.items))) one.group
+        ∙ ap (λ (es : List RecGroupEntry). tree_of (made_by es) (ty ∷ [])) (sym joined)
+        ∙ tree_of-grown all before.given.numbers one.more keys one.plans.new (ty ∷ []) resolved.0 resolved.1
