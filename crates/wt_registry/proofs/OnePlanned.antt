@@ -1,5 +1,6 @@
 -- A registration of one key: what its plan has, and what it comes to.
-use Rattle.std.proofs.Common.{◌≡◌, ℕ, ◌<◌, ◌⊎◌, inl, inr, true, List, [], ◌∷◌, ◌++◌, length, map, slice_get, get_or, unwrap_or, Option, Some, None, option_map, Ok, refl, sym, ap, subst, ◌∙◌, arith}
+use Rattle.std.proofs.Common.{◌≡◌, ℕ, ◌<◌, ◌⊎◌, inl, inr, Bool, true, false, ◌||◌, if◌then◌else◌, List, [], ◌∷◌, ◌++◌, length, map, slice_get, get_or, unwrap_or, Option, Some, None, option_map, Ok, refl, sym, ap, subst, ◌∙◌, arith}
+use Rattle.std.specs.Option.{option_or}
 use Rattle.std.proofs.lemmas.List.{append-nil}
 use Rattle.std.proofs.lemmas.Option.{slice_get_read}
 use Rattle.wt_env.specs.Among.{Among}
@@ -8,11 +9,12 @@ use Rattle.wt_env.specs.declared.types.VMSharedTypeIndex.{VMSharedTypeIndex}
 use Rattle.wt_env.specs.declared.types.WasmSubType.{WasmSubType}
 use Rattle.wt_env.proofs.lists.Mapped.{among_mapped}
 use Rattle.wt_env.proofs.lists.Members.{some_same}
-use Rattle.wt_tree.specs.NumberFunction.{is_number_function}
 use Rattle.wt_tree.specs.Tree.{ClosedTree}
-use Rattle.wt_tree.specs.References.{group_refs}
-use Rattle.wt_tree.proofs.Plain.{group_refs-own, number_function-own}
-use Rattle.wt_rules.proofs.Functions.{function-plain}
+use Rattle.wt_rules.specs.HostTypes.{is_host_type, host_breach}
+use Rattle.wt_rules.specs.Rules.{is_function}
+use Rattle.wt_rules.proofs.KnownHosts.{host-parts}
+use Rattle.wt_model.specs.HostRefusals.{breach_refusal}
+use Rattle.wt_plan.proofs.HostReferences.{known-resolved}
 use Rattle.wt_model.specs.declared.ever.EverRegistered.{EverRegistered}
 use Rattle.wt_model.specs.declared.refusal.BuildRefusal.{BuildRefusal}
 use Rattle.wt_model.specs.declared.refusal.BuildRefusal.TheVariants as refusal
@@ -21,11 +23,11 @@ use Rattle.wt_model.specs.Describe.{tree_of}
 use Rattle.wt_model.specs.Indices.{closed_tree, number_of}
 use Rattle.wt_model.specs.Plan.{Plan, Occurs, empty_plan, plan_key}
 use Rattle.wt_model.specs.Limits.{passed_limit}
-use Rattle.wt_model.specs.Registration.{host_type, trees_of, registration_plan, registration_refusal, made_unless, hold_of, carried_out, register}
+use Rattle.wt_model.specs.Registration.{host_type, trees_of, registration_plan, rule_refusal, gc_refusal, limit_refusal, registration_refusal, made_unless, hold_of, carried_out, register}
 use Rattle.wt_model.proofs.plan.Refusals.{host-refusal}
 use Rattle.wt_keys.specs.declared.entry.RecGroupEntry.{RecGroupEntry}
 use Rattle.wt_keys.specs.Entries.{made_of, made_by}
-use Rattle.wt_keys.specs.Keys.{AreKeys, AreShown, named_at}
+use Rattle.wt_keys.specs.Keys.{AreKeys, AreShown}
 use Rattle.wt_keys.proofs.AddedKeys.{closed_tree-registered}
 use Rattle.wt_keys.proofs.KeyTrees.{tree-of_key}
 use Rattle.wt_plan.specs.declared.plan.Plan.{Plan as PlanFields}
@@ -33,7 +35,7 @@ use Rattle.wt_plan.specs.Planned.{AreResolved, AreNewBelow, AreNewKeys, plan_of,
 use Rattle.wt_plan.proofs.NewIndices.{new_below-none}
 use Rattle.wt_plan.proofs.GrownKeys.{new_below-all, tree_of-grown}
 use Rattle.wt_plan.proofs.Planning.{groups_of-joined}
-use Rattle.wt_plan.proofs.PlannedGroups.{EntriesOccur, occurs-groups}
+use Rattle.wt_plan.proofs.PlannedGroups.{EntriesOccur, reach-entry, occurs-groups}
 use Rattle.wt_holds.specs.declared.inner.TypeRegistryInner.{TypeRegistryInner}
 use Rattle.wt_holds.specs.Kept.{AreKept, registry_at}
 
@@ -44,9 +46,50 @@ pub plan_of-empty : (registry : Registry) (entries : List RecGroupEntry) (plan :
 plan_of-empty registry entries plan made given added numbers indices =
     λ i. record { registered = made i; added = made_by (added i); given = given i; numbers = numbers i; map = indices i }
 
--- a function over numbers refers to nothing
-pub plain-named : (made : List RegisteredGroup) (types : List WasmSubType) (ty : WasmSubType) → is_number_function ty ≡ true → types ≡ ty ∷ [] → AreResolved made types
-plain-named made types ty plain is = ([], ap (map (named_at made)) (ap group_refs is ∙ group_refs-own ty (number_function-own ty plain)))
+-- a type of a host, which nothing but a limit refuses
+pub record IsAllowed (registry : Registry) (ty : WasmSubType) : Type 0 where
+  pub host : is_host_type (closed_tree registry.made) ty ≡ true
+  pub breach : host_breach (closed_tree registry.made) ty ≡ None
+  pub may : (registry.engine.gc ≡ true) ⊎ (is_function ty ≡ true)
+
+none_mapped : {A B : Type 0} (f : A → B) (o : Option A) → option_map f o ≡ None → o ≡ None
+none_mapped f None is = refl
+none_mapped f (Some x) is = absurd (cc)
+
+neither_some : {A : Type 0} (a b : Option A) → option_or a b ≡ None → (a ≡ None) × (b ≡ None)
+neither_some None b is = (refl, is)
+neither_some (Some x) b is = absurd (cc)
+
+either_true : (gc functions : Bool) → (if gc || functions then None else Some refusal.NoGc) ≡ None → (gc ≡ true) ⊎ (functions ≡ true)
+either_true true functions is = inl refl
+either_true false true is = inr refl
+either_true false false is = absurd (cc)
+
+-- what isn't refused before limits
+pub allowed : (registry : Registry) (ty : WasmSubType) → is_host_type (closed_tree registry.made) ty ≡ true → option_or (rule_refusal registry (host_type ty)) (gc_refusal registry (host_type ty)) ≡ None → IsAllowed registry ty
+allowed registry ty host none =
+    let parts = neither_some (rule_refusal registry (host_type ty)) (gc_refusal registry (host_type ty)) none in
+    record {
+      host = host;
+      breach = none_mapped breach_refusal (host_breach (closed_tree registry.made) ty) parts.0;
+      may = either_true registry.engine.gc (is_function ty) parts.1;
+    }
+
+-- what is refused before limits is refused so
+pub refused-before : (registry : Registry) (party : ℕ) (ty : WasmSubType) (why : BuildRefusal) → Some why ≡ option_or (rule_refusal registry (host_type ty)) (gc_refusal registry (host_type ty))
+    → registration_refusal registry party (host_type ty) ≡ Some why
+refused-before registry party ty why is = by (rule_refusal registry (host_type ty)) (gc_refusal registry (host_type ty)) (limit_refusal registry party (host_type ty)) is
+  where
+    by : (a b c : Option BuildRefusal) → Some why ≡ option_or a b → option_or a (option_or b c) ≡ Some why
+    by (Some x) b c is = sym is
+    by None (Some x) c is = sym is
+    by None None c is = absurd (cc)
+
+-- what stands where nothing is planned yet
+pub read-made : (engine : EngineParts) (groups : TypeRegistryInner) (slice : List RecGroupEntry) (before : PlanFields) (old : Registry) → slice ≡ groups.entries.items → before.added.items ≡ [] → registry_at engine groups ≡ old
+    → made_by (slice ++ before.added.items) ≡ old.made
+read-made engine groups slice before old same none view =
+    ap made_by (ap (λ (added : List RecGroupEntry). slice ++ added) none ∙ append-nil slice ∙ same) ∙ ap (λ (r : Registry). r.made) view
 
 -- ---- a plan of one key
 
@@ -84,7 +127,7 @@ one-planned entries top before after types one added numbers indices given = rec
 module _ (entries : List RecGroupEntry) (top : ℕ) (after : PlanFields) (types : List WasmSubType) (one : OnePlanned entries top after types) where
   one-entries : EntriesOccur (entries ++ after.added.items) after.added.items after.numbers.items
   one-entries = record {
-    every = λ entry at. (one.entry, one.stands, subst (Among one.entry.number) (sym one.numbers) (inl refl), one.led entry at);
+    every = λ entry at. (one.entry.number, subst (Among one.entry.number) (sym one.numbers) (inl refl), reach-entry (entries ++ after.added.items) one.entry entry.number one.stands (one.led entry at));
     only = λ number at. (one.entry, one.stands, sym (only_number number (subst (Among number) one.numbers at)));
   }
     where
@@ -175,27 +218,27 @@ module _ (engine : EngineParts) (groups : TypeRegistryInner) (after : PlanFields
       is.one.numbers ∙ ap (λ (n : ℕ). n ∷ []) same
 
   -- a plan is refused with the limit that it would pass
-  pub refused : (party : ℕ) → registry_at engine groups ≡ old → is_number_function ty ≡ true
+  pub refused : (party : ℕ) → registry_at engine groups ≡ old → IsAllowed old ty
       → registration_refusal old party (host_type ty) ≡ option_map refusal.Full (passed_limit (registry_at engine groups) party (plan_of groups.entries.items after))
-  refused party view plain =
-      host-refusal old party ty (function-plain ty plain)
+  refused party view may =
+      host-refusal old party ty may.breach may.may
       ∙ ap (λ (p : Plan). option_map refusal.Full (passed_limit old party p)) is.planned
       ∙ ap (λ (r : Registry). option_map refusal.Full (passed_limit r party (plan_of groups.entries.items after))) (sym view)
 
   -- and one that would pass none is accepted
-  pub accepts : (party : ℕ) → registry_at engine groups ≡ old → is_number_function ty ≡ true → passed_limit (registry_at engine groups) party (plan_of groups.entries.items after) ≡ None
+  pub accepts : (party : ℕ) → registry_at engine groups ≡ old → IsAllowed old ty → passed_limit (registry_at engine groups) party (plan_of groups.entries.items after) ≡ None
       → registration_refusal old party (host_type ty) ≡ None
-  accepts party view plain none = refused party view plain ∙ ap (option_map refusal.Full) none
+  accepts party view may none = refused party view may ∙ ap (option_map refusal.Full) none
 
   -- what a plan that was carried out comes to
-  module _ (kept : AreKept engine groups) (view : registry_at engine groups ≡ old) (new : TypeRegistryInner) (party number : ℕ) (index : VMSharedTypeIndex) (plain : is_number_function ty ≡ true)
+  module _ (kept : AreKept engine groups) (view : registry_at engine groups ≡ old) (new : TypeRegistryInner) (party number : ℕ) (index : VMSharedTypeIndex) (may : IsAllowed old ty)
       (none : passed_limit (registry_at engine groups) party (plan_of groups.entries.items after) ≡ None)
       (carried : carried_out (registry_at engine groups) party (plan_of groups.entries.items after) ≡ registry_at engine new)
       (first_number : slice_get after.numbers.items 0 ≡ Some number) (first_index : slice_get after.map.items 0 ≡ Some index) where
     pub registers : register old party ty ≡ Ok (record { engine = old.engine.number; index = index; number = number; party = party }, registry_at engine new)
     registers =
         let plan = plan_of groups.entries.items after in
-        let accepted = accepts party view plain none in
+        let accepted = accepts party view may none in
         let after_it : carried_out old party plan ≡ registry_at engine new = ap (λ (r : Registry). carried_out r party plan) (sym view) ∙ carried in
         ap (λ (why : Option BuildRefusal). made_unless why (hold_of old.engine.number party (registration_plan old (host_type ty)), carried_out old party (registration_plan old (host_type ty)))) accepted
         ∙ ap (λ (p : Plan). Ok (hold_of old.engine.number party p, carried_out old party p)) is.planned
@@ -209,7 +252,7 @@ module _ (engine : EngineParts) (groups : TypeRegistryInner) (after : PlanFields
         ap (λ (found : Option ClosedTree). found ∷ [])
         (ap (λ (made : List RegisteredGroup). closed_tree made index) (sym made-new ∙ groups_of-joined groups.entries.items after)
         ∙ one-named groups.entries.items groups.given.numbers after (ty ∷ []) is.one kept.keys after.given.numbers is.keys index first_index
-        (plain-named (made_by groups.entries.items) (ty ∷ []) ty plain refl)
+        (subst (λ (r : Registry). AreResolved r.made (ty ∷ [])) (sym view) (known-resolved old.made ty (host-parts (closed_tree old.made) ty may.host).known))
         ∙ ap (λ (r : Registry). Some (record { tree = tree_of r.made (ty ∷ []); place = 0 })) view)
 
     pub is_at : number_of (made_by new.entries.items) index ≡ Some number

@@ -3,7 +3,7 @@
 #![tactic(auto)]
 
 pub use wt_model::{handle_kind, live, refusal, swept};
-pub use wt_rules::{place, rules, type_rules};
+pub use wt_rules::{host_types, place, rules, type_rules};
 
 pub mod collection;
 pub mod debt;

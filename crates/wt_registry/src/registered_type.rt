@@ -99,6 +99,7 @@ impl Hash for RegisteredType {
 }
 
 impl RegisteredType {
+    ghost use Rattle.wt_rules.specs.HostTypes.{is_host_type};
     ghost use Rattle.wt_model.specs.Indices.{closed_tree};
     ghost use Rattle.wt_model.specs.Shown.{sub_type_at};
     ghost use Rattle.wt_model.specs.Holds.{root as root_of, hold};
@@ -110,16 +111,19 @@ impl RegisteredType {
     /// Registers a type for a party, and gives the party one hold of it. A type whose closed tree is that
     /// of a registered one is that one, with its index. Otherwise it gets the smallest free index.
     ///
-    /// It is refused with the first cause of the build checks: `Full` where a limit would be passed, on groups,
-    /// types, registration numbers or holds, in this order. A refusal leaves all as before, want of memory
-    /// included.
+    /// Its type indices are engine indices of registered types, as `TypeRegistry::is_host_type` tests.
+    ///
+    /// It is refused with the first cause of the build checks: `FinalSupertype` where its supertype is final,
+    /// `SupertypeMismatch` where its shape doesn't match its supertype's, `TooManyFields` where a struct has more than
+    /// 10,000, `TagHasResults` where the function of an exception has results, `NoGc` where the engine has no garbage
+    /// collection and it is no function, and `Full` where a limit would be passed, on groups, types, references,
+    /// registration numbers or holds, in this order. A refusal leaves all as before, want of memory included.
     pub fn new(
         registry: &mut TypeRegistry,
         party: &mut PartyNumber,
         ty: WasmSubType,
     ) -> Result<RegisteredType, BuildRefusal>
-        // A condition for now: a final function with no supertype, over numbers and vectors.
-        requires plain { is_number_function ty ≡ true }
+        requires host { is_host_type (closed_tree registry.old.made) ty ≡ true }
         requires party { party.old < registry.old.engine.limits.parties }
 
         ensures ok { IfOk result (λ hold. register registry.old party.old ty ≡ Ok (hold, registry.new)) }
@@ -134,6 +138,9 @@ impl RegisteredType {
         ensures sound { IsSound registry.new }
     {
         let owner = party.number();
+        if let Some(why) = registry.host_refusal(&ty) {
+            return Err(why);
+        }
         let key = WasmRecGroup::alone(registry.alloc, ty)?;
         let mut plan = Plan::new(registry.alloc, registry.groups.given);
         let entries = registry.groups.entries.as_slice();
@@ -316,6 +323,22 @@ mod tests {
         })
     }
 
+    /// Registers a function over numbers, which names nothing.
+    fn new_function(
+        registry: &mut TypeRegistry,
+        party: &mut PartyNumber,
+        ty: WasmSubType,
+    ) -> Result<RegisteredType, BuildRefusal>
+        requires plain { is_number_function ty ≡ true }
+        requires party { party.old < registry.old.engine.limits.parties }
+        ensures engine { registry.new.engine ≡ registry.old.engine }
+        ensures party { party.new ≡ party.old }
+        ensures owner { IfOk result (λ hold. hold.party ≡ party.new) }
+        ensures held { IfOk result (λ hold. IsHeld registry.new hold) }
+    {
+        RegisteredType::new(registry, party, ty)
+    }
+
     /// Registers the function type from one number to another.
     fn registered(
         alloc: Global,
@@ -333,7 +356,7 @@ mod tests {
         ensures held { IfOk result (λ hold. IsHeld registry.new hold) }
     {
         let ty = function(alloc, given, returned)?;
-        RegisteredType::new(registry, party, ty)
+        new_function(registry, party, ty)
     }
 
     fn is_refused(rt: &impl Abort, answer: Result<RegisteredType, BuildRefusal>, full: Full) {

@@ -20,7 +20,8 @@ use wt_model::refusal::{BuildRefusal, Full};
 use wt_model::swept::Swept;
 use wt_plan::module_plan::plan_groups;
 use wt_plan::plan::Plan;
-use wt_rules::rules::are_functions;
+use wt_rules::host_types::{host_breach, is_host_type};
+use wt_rules::rules::{are_functions, is_function};
 
 /// The recursion groups that an engine has registered.
 #[derive(Drop)]
@@ -44,7 +45,8 @@ impl Model for TypeRegistry {
 
 impl TypeRegistry {
     ghost use Rattle.std.specs.Prelude.{◌≡◌, ℕ, ◌<◌, ◌≤◌, ◌∷◌, [], ◌↔◌, map, false, None, IsTrue, IsSome, IfOk, IfErr, OnOk, OnErr, Ok, Err, Some, true, is_some, option_map, option_and_then};
-    ghost use Rattle.std.specs.Option.{option_copied};
+    ghost use Rattle.std.specs.Option.{option_copied, option_or};
+    ghost use Rattle.wt_rules.specs.HostTypes.{is_host_type as is_host_type_of};
     ghost use Rattle.wt_rules.specs.Rules.{AreCountable, AreModuleTypes};
     ghost use Rattle.wt_model.specs.Registered.{empty_registry};
     ghost use Rattle.wt_tree.specs.Trampoline.{trampoline};
@@ -57,7 +59,7 @@ impl TypeRegistry {
     ghost use Rattle.wt_model.specs.Subtyping.{is_subtype_index};
     ghost use Rattle.wt_model.specs.Live.{live_of};
     ghost use Rattle.wt_model.specs.Holds.{hold, held_at, IsHolding};
-    ghost use Rattle.wt_model.specs.Registration.{Registration, host_type, module_groups, trees_of, registration_refusal, IsRefusal, register as register_of, register_groups};
+    ghost use Rattle.wt_model.specs.Registration.{Registration, host_type, module_groups, trees_of, rule_refusal, gc_refusal, registration_refusal, IsRefusal, register as register_of, register_groups};
     ghost use Rattle.wt_model.specs.Removal.{drop_hold, sweep_debt, release_holds};
     ghost use Rattle.wt_model.specs.Sound.{IsSound};
     ghost use Rattle.wt_model.specs.Changes.{HoldChanges, SweepChanges, ReleaseChanges};
@@ -141,6 +143,29 @@ impl TypeRegistry {
             Some(trampoline) => trampoline,
             None => unreachable!(),
         }
+    }
+
+    /// Whether a host may register this type: each type index in it, its supertype included, is the index of a registered
+    /// type of the kind that its place needs; an exception is final with no supertype, and its constant fields hold its
+    /// function's parameters; and it is no continuation. It takes no memory.
+    pub fn is_host_type(&self, ty: &WasmSubType) -> bool
+        ensures { result ≡ is_host_type_of (closed_tree self.now.made) ty.now }
+    {
+        is_host_type(self, ty)
+    }
+
+    /// Why a type of a host is refused before any limit is tested, if there is a cause.
+    pub(crate) fn host_refusal(&self, ty: &WasmSubType) -> Option<BuildRefusal>
+        requires { is_host_type_of (closed_tree self.now.made) ty.now ≡ true }
+        ensures { result ≡ option_or (rule_refusal self.now (host_type ty.now)) (gc_refusal self.now (host_type ty.now)) }
+    {
+        if let Some(breach) = host_breach(self, ty) {
+            return Some(BuildRefusal::from(breach));
+        }
+        if !self.engine.gc() && !is_function(ty) {
+            return Some(BuildRefusal::NoGc);
+        }
+        None
     }
 
     /// The registered groups, in order of their registration numbers.

@@ -15,7 +15,17 @@ use wt_rules::rules::{are_countable, are_module_types};
 use wt_tree::laws::{BothWays, antisymmetric};
 use wt_tree::supers::Types;
 
+mod hosts;
 mod rules;
+
+/// The final type of this shape, below none.
+fn final_type(composite_type: WasmCompositeInnerType) -> WasmSubType {
+    WasmSubType {
+        is_final: true,
+        supertype: None,
+        composite_type,
+    }
+}
 
 /// The final struct of one field, a reference to a struct of the module.
 fn structure(alloc: Global, mutable: bool, index: u32) -> Result<WasmSubType, OutOfMemory> {

@@ -1,5 +1,5 @@
 -- first what references name, then the trampolines
-use Rattle.std.proofs.Common.{◌≡◌, ℕ, List, Option, map, sym, ap, ◌∙◌}
+use Rattle.std.proofs.Common.{ℕ, List, Option, map, sym, ap, ◌∙◌}
 use Rattle.std.specs.List.{filter_map}
 use Rattle.wt_model.specs.Holds.{stop_waiting}
 use Rattle.wt_holds.specs.Counts.{standings_of}

@@ -20,15 +20,6 @@ fn first_type() -> EngineOrModuleTypeIndex {
     EngineOrModuleTypeIndex::Module(ModuleInternedTypeIndex(0))
 }
 
-/// The final type of this shape, below none.
-fn final_type(composite_type: WasmCompositeInnerType) -> WasmSubType {
-    WasmSubType {
-        is_final: true,
-        supertype: None,
-        composite_type,
-    }
-}
-
 /// The open type of this shape, below none.
 fn open_type(composite_type: WasmCompositeInnerType) -> WasmSubType {
     WasmSubType {

@@ -1,11 +1,13 @@
 -- a plan of one key, carried out
-use Rattle.std.proofs.Common.{◌≡◌, ℕ, List, [], ◌∷◌, ◌++◌, slice_get, Some, Ok, IfErr, Result, Err, sym, ap, subst, ◌∙◌, arith}
+use Rattle.std.proofs.Common.{◌≡◌, ℕ, inr, List, [], ◌∷◌, ◌++◌, slice_get, Some, None, true, Ok, IfErr, Result, Err, sym, ap, subst, ◌∙◌, arith}
 use Rattle.std.specs.Result.{IsErrAnd}
 use Rattle.wt_env.specs.Limits.{EngineParts}
 use Rattle.wt_model.specs.declared.refusal.BuildRefusal.{BuildRefusal}
 use Rattle.wt_model.specs.Holds.{held_at}
-use Rattle.wt_model.specs.Registered.{Registry}
+use Rattle.wt_model.specs.Registered.{RegisteredGroup, Registry}
 use Rattle.wt_model.specs.Registration.{host_type, registration_refusal, IsRefusal, register}
+use Rattle.wt_env.specs.declared.types.WasmSubType.{WasmSubType}
+use Rattle.wt_rules.specs.HostTypes.{is_host_type, host_breach}
 use Rattle.wt_model.specs.Sound.{KeepRules, IsSound}
 use Rattle.wt_model.specs.Changes.{HoldChanges}
 use Rattle.wt_model.proofs.holds.HeldEach.{times-own}
@@ -13,26 +15,40 @@ use Rattle.wt_keys.specs.Entries.{made_by}
 use Rattle.wt_keys.specs.declared.entry.RecGroupEntry.{RecGroupEntry}
 use Rattle.wt_keys.specs.Keys.{KeyNamesTypes, AreKeys}
 use Rattle.wt_model.specs.declared.ever.EverRegistered.{EverRegistered}
-use Rattle.wt_tree.proofs.Plain.{number_function-own}
+use Rattle.wt_rules.proofs.KnownHosts.{host-parts}
+use Rattle.wt_model.specs.Indices.{closed_tree}
+use Rattle.wt_plan.specs.Planned.{AreResolved}
 use Rattle.wt_plan.specs.declared.plan.Plan.{Plan as PlanFields}
 use Rattle.wt_plan.specs.Planned.{PlansOne}
 use Rattle.wt_plan.proofs.RulesKept.{rules-host}
 use Rattle.std.proofs.lemmas.List.{append-nil}
-use Rattle.wt_plan.proofs.HostKeys.{host-slots}
+use Rattle.wt_plan.proofs.HostReferences.{known-resolved, known-slots}
 use Rattle.wt_holds.specs.Kept.{registry_at}
-use Rattle.wt_registry.proofs.OnePlanned.{IsPlanned, is_planned, plain-named, one-occurs, one-below, first-number, first-place, own-numbers, accepts, registers, named, is_at, refused}
+use Rattle.wt_registry.proofs.OnePlanned.{IsPlanned, is_planned, allowed, refused-before, read-made, one-occurs, one-below, first-number, first-place, own-numbers, accepts, registers, named, is_at, refused}
 use Rattle.wt_registry.proofs.Soundness.{sound}
 use Rattle.wt_registry.proofs.registered_type.RegisteredType.new.Goals as goal
+
+pub returns-in-Some-clause-refused : goal.returns-in-Some-clause-refused
+returns-in-Some-clause-refused c = inr (refused-before c.args.registry.now c.args.party.now c.args.ty c.in-Some.why (sym c.in-Some.is ∙ c.host_refusal.ensures))
+
+pub returns-in-Some-clause-sound : goal.returns-in-Some-clause-sound
+returns-in-Some-clause-sound c = subst IsSound c.registry.view_is (sound c.registry.inside.engine c.registry.inside.groups c.registry.invariant)
 
 pub returns-in_err-key-clause-sound : goal.returns-in_err-key-clause-sound
 returns-in_err-key-clause-sound c = subst IsSound c.registry.view_is (sound c.registry.inside.engine c.registry.inside.groups c.registry.invariant)
 
 pub plan_key-requires-clause-named : goal.plan_key-requires-clause-named
-plan_key-requires-clause-named c = plain-named (made_by (c.as_slice-entries.result.now ++ c.new-plan.result.added.items)) c.in_ok-key.key.types c.args.ty c.requires.plain c.in_ok-key.ensures
+plan_key-requires-clause-named c =
+    let old = c.args.registry.now in
+    let made = read-made c.registry.inside.engine c.registry.inside.groups c.as_slice-entries.result.now c.new-plan.result old c.as_slice-entries.ensures.value c.new-plan.ensures.added c.registry.view_is in
+    let resolved = known-resolved old.made c.args.ty (host-parts (closed_tree old.made) c.args.ty c.requires.host).known in
+    subst (λ (types : List WasmSubType). AreResolved (made_by (c.as_slice-entries.result.now ++ c.new-plan.result.added.items)) types) (sym c.in_ok-key.ensures)
+    (subst (λ (groups : List RegisteredGroup). AreResolved groups (c.args.ty ∷ [])) (sym made) resolved)
 
--- the key of one function over numbers has no index in it
 pub plan_key-requires-clause-slots : goal.plan_key-requires-clause-slots
-plan_key-requires-clause-slots c = subst KeyNamesTypes (sym c.in_ok-key.ensures) (host-slots c.args.ty c.requires.plain)
+plan_key-requires-clause-slots c =
+    let old = c.args.registry.now in
+    subst KeyNamesTypes (sym c.in_ok-key.ensures) (known-slots old.made c.args.ty (host-parts (closed_tree old.made) c.args.ty c.requires.host).known)
 
 pub returns-in_err-plan_key-clause-sound : goal.returns-in_err-plan_key-clause-sound
 returns-in_err-plan_key-clause-sound c = subst IsSound c.registry.view_is (sound c.registry.inside.engine c.registry.inside.groups c.registry.invariant)
@@ -55,9 +71,11 @@ check_and_commit-requires-clause-rules c =
     subst (λ (es : List RecGroupEntry). AreKeys es before.given.numbers) (sym none)
     (subst (λ (given : EverRegistered). AreKeys c.registry.inside.groups.entries.items given.numbers) (sym c.new-plan.ensures.given) c.registry.invariant.keys) in
     let rules = subst (λ (es : List RecGroupEntry). KeepRules (made_by es)) (sym none) c.registry.invariant.rules in
+    let made = read-made c.registry.inside.engine c.registry.inside.groups entries before c.args.registry.now value c.new-plan.ensures.added c.registry.view_is in
     subst (λ (es : List RecGroupEntry). KeepRules (made_by (es ++ after.added.items))) value
     (rules-host entries before after c.args.ty keys c.in_ok-plan_key.ensures.keys (subst (PlansOne entries before after) c.in_ok-key.ensures c.in_ok-plan_key.ensures.one)
-    (number_function-own c.args.ty c.requires.plain) rules)
+    (subst (λ (groups : List RegisteredGroup). is_host_type (closed_tree groups) c.args.ty ≡ true) (sym made) c.requires.host)
+    (subst (λ (groups : List RegisteredGroup). host_breach (closed_tree groups) c.args.ty ≡ None) (sym made) (allowed c.args.registry.now c.args.ty c.requires.host (sym c.host_refusal.ensures ∙ c.in_default.is)).breach) rules)
 
 pub check_and_commit-requires-clause-below : goal.check_and_commit-requires-clause-below
 check_and_commit-requires-clause-below c =
@@ -84,7 +102,8 @@ returns-in_err-numbers-clause-refused c =
     c.in_ok-plan_key.ensures.ok c.in_ok-plan_key.ensures.keys c.in_ok-plan_key.ensures.one in
     let cause =
     ap (λ (party : ℕ). registration_refusal c.args.registry.now party (host_type c.args.ty)) (sym c.number-owner.ensures)
-    ∙ refused c.registry.inside.engine groups c.plan_key.new.plan c.args.registry.now c.args.ty planned c.number-owner.result c.registry.view_is c.requires.plain in
+    ∙ refused c.registry.inside.engine groups c.plan_key.new.plan c.args.registry.now c.args.ty planned c.number-owner.result c.registry.view_is
+    (allowed c.args.registry.now c.args.ty c.requires.host (sym c.host_refusal.ensures ∙ c.in_default.is)) in
     handed c.from_residual-in_err-numbers.result c.in_err-numbers.field-0.0 (IsRefusal (registration_refusal c.args.registry.now c.args.party.now (host_type c.args.ty))) c.from_residual-in_err-numbers.ensures.1
     (subst (λ why. IsRefusal why c.in_err-numbers.field-0.0) (sym cause) c.in_err-numbers.ensures.refused)
 
@@ -118,18 +137,18 @@ returns-clause-ok c =
     let after = registry_at c.registry.inside.engine c.check_and_commit.new.groups in
     ap (λ (party : ℕ). register c.args.registry.now party c.args.ty) (sym c.number-owner.ensures)
     ∙ registers c.registry.inside.engine c.registry.inside.groups c.plan_key.new.plan c.args.registry.now c.args.ty (facts c) c.registry.invariant c.registry.view_is c.check_and_commit.new.groups c.number-owner.result
-    c.index-2.result.now c.index.result.now c.requires.plain c.in_ok-numbers.ensures.accepted c.in_ok-numbers.ensures.ok (number_read c) (index_read c)
+    c.index-2.result.now c.index.result.now (allowed c.args.registry.now c.args.ty c.requires.host (sym c.host_refusal.ensures ∙ c.in_default.is)) c.in_ok-numbers.ensures.accepted c.in_ok-numbers.ensures.ok (number_read c) (index_read c)
     ∙ (λ i. Ok (record { engine = engine i; index = c.index.result.now; number = c.index-2.result.now; party = c.number-owner.result }, after))
 
 pub returns-clause-accepted : goal.returns-clause-accepted
 returns-clause-accepted c =
     ap (λ (party : ℕ). registration_refusal c.args.registry.now party (host_type c.args.ty)) (sym c.number-owner.ensures)
-    ∙ accepts c.registry.inside.engine c.registry.inside.groups c.plan_key.new.plan c.args.registry.now c.args.ty (facts c) c.number-owner.result c.registry.view_is c.requires.plain c.in_ok-numbers.ensures.accepted
+    ∙ accepts c.registry.inside.engine c.registry.inside.groups c.plan_key.new.plan c.args.registry.now c.args.ty (facts c) c.number-owner.result c.registry.view_is (allowed c.args.registry.now c.args.ty c.requires.host (sym c.host_refusal.ensures ∙ c.in_default.is)) c.in_ok-numbers.ensures.accepted
 
 pub returns-clause-named : goal.returns-clause-named
 returns-clause-named c =
     named c.registry.inside.engine c.registry.inside.groups c.plan_key.new.plan c.args.registry.now c.args.ty (facts c) c.registry.invariant c.registry.view_is c.check_and_commit.new.groups c.number-owner.result
-    c.index-2.result.now c.index.result.now c.requires.plain c.in_ok-numbers.ensures.accepted c.in_ok-numbers.ensures.ok (number_read c) (index_read c)
+    c.index-2.result.now c.index.result.now (allowed c.args.registry.now c.args.ty c.requires.host (sym c.host_refusal.ensures ∙ c.in_default.is)) c.in_ok-numbers.ensures.accepted c.in_ok-numbers.ensures.ok (number_read c) (index_read c)
 
 pub returns-clause-changes : goal.returns-clause-changes
 returns-clause-changes c =
@@ -153,7 +172,7 @@ returns-clause-held c =
       held = omega (arith, more, once, same);
       located =
           is_at c.registry.inside.engine c.registry.inside.groups c.plan_key.new.plan c.args.registry.now c.args.ty (facts c) c.registry.invariant c.registry.view_is c.check_and_commit.new.groups c.number-owner.result
-          c.index-2.result.now c.index.result.now c.requires.plain c.in_ok-numbers.ensures.accepted c.in_ok-numbers.ensures.ok (number_read c) (index_read c);
+          c.index-2.result.now c.index.result.now (allowed c.args.registry.now c.args.ty c.requires.host (sym c.host_refusal.ensures ∙ c.in_default.is)) c.in_ok-numbers.ensures.accepted c.in_ok-numbers.ensures.ok (number_read c) (index_read c);
     }
 
 pub returns-clause-sound : goal.returns-clause-sound

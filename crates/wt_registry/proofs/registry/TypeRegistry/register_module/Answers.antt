@@ -1,5 +1,5 @@
 -- the plan of a module's groups, carried out
-use Rattle.std.proofs.Common.{◌++◌, List, length, sym, ap, subst, ◌∙◌, arith}
+use Rattle.std.proofs.Common.{◌++◌, List, length, sym, ap, subst, arith}
 use Rattle.wt_rules.specs.Rules.{total_members}
 use Rattle.wt_model.specs.Indices.{closed_tree}
 use Rattle.wt_keys.specs.Entries.{made_by}
