@@ -2,16 +2,12 @@
 use Rattle.std.specs.Prelude.{ℕ, Bool, true, false, List, [], ◌∷◌, ◌++◌, length, codes}
 use Rattle.std.specs.Fmt.{decimal}
 use Rattle.std.specs.List.{flat_map}
-use Rattle.wt_env.specs.declared.limits.Limit.{Limit}
-use Rattle.wt_env.specs.declared.limits.Limit.TheVariants.{Parties, Groups, Types, References, Ever, Holds}
 use Rattle.wt_model.specs.declared.swept.Swept.{Swept}
 use Rattle.wt_model.specs.declared.swept.Swept.TheVariants.{Removed, Kept, Gone}
 use Rattle.wt_model.specs.declared.live.LiveGroup.{LiveGroup}
-use Rattle.wt_model.specs.declared.refusal.Full.{Full}
-use Rattle.wt_rules.specs.declared.place.Place.{Place}
-use Rattle.wt_rules.specs.declared.place.Place.TheVariants.{Member}
-use Rattle.wt_rules.specs.declared.place.Rule.{Rule}
-use Rattle.wt_rules.specs.declared.place.Rule.TheVariants.{Forward, SuperOrder, Kind, SuperFinal, SuperKind, SuperMismatch, ExnOpen, ExnResults, ExnFields}
+use Rattle.wt_model.specs.declared.refusal.BuildRefusal.{BuildRefusal}
+use Rattle.wt_model.specs.declared.refusal.BuildRefusal.TheVariants as build
+use Rattle.wt_model.specs.RefusalTexts.{build_refusal_text}
 use Rattle.wt_model.specs.declared.handle_kind.HandleKind.{HandleKind}
 use Rattle.wt_model.specs.declared.handle_kind.HandleKind.TheVariants as kinds
 use Rattle.wt_session.specs.declared.reply.Refusal.{Refusal}
@@ -21,14 +17,6 @@ use Rattle.wt_session.specs.declared.reply.Reply.TheVariants.{TypeMade, Module, 
 
 abbrev pub line_feed : List ℕ
 line_feed = 10 ∷ []
-
-abbrev pub limit_word : Limit → List ℕ
-limit_word Parties = codes "parties"
-limit_word Groups = codes "groups"
-limit_word Types = codes "types"
-limit_word References = codes "references"
-limit_word Ever = codes "ever"
-limit_word Holds = codes "holds"
 
 -- an index after a blank
 abbrev pub later_index_text : ℕ → List ℕ
@@ -42,10 +30,6 @@ indices_text (first ∷ rest) = decimal first ++ flat_map later_index_text rest
 -- a group after a blank, as ` #2[1 2]`
 abbrev pub group_text : LiveGroup → List ℕ
 group_text group = codes " #" ++ decimal group.number ++ codes "[" ++ indices_text group.indices ++ codes "]"
-
--- `Full: groups 1, wanted 2`
-abbrev pub full_text : Full → List ℕ
-full_text full = codes "Full: " ++ limit_word full.limit ++ codes " " ++ decimal full.bound ++ codes ", wanted " ++ decimal full.wanted
 
 abbrev pub kind_word : HandleKind → List ℕ
 kind_word kinds.Type = codes "type"
@@ -62,27 +46,20 @@ abbrev pub no_such_type_text : ℕ → ℕ → ℕ → List ℕ
 no_such_type_text party handle ty =
     codes "NoSuchHandle: party " ++ decimal party ++ codes " has no type " ++ decimal handle ++ codes "." ++ decimal ty
 
-abbrev pub rule_word : Rule → List ℕ
-rule_word Forward = codes "forward"
-rule_word SuperOrder = codes "super-order"
-rule_word Kind = codes "kind"
-rule_word SuperFinal = codes "super-final"
-rule_word SuperKind = codes "super-kind"
-rule_word SuperMismatch = codes "super-mismatch"
-rule_word ExnOpen = codes "exn-open"
-rule_word ExnResults = codes "exn-results"
-rule_word ExnFields = codes "exn-fields"
-
+-- the code of a refused registration, and why it is refused, as `Full: groups 1, wanted 2` or
 -- `InvalidModule: group 0 member 1: forward`
-abbrev pub invalid_module_text : Place → Rule → List ℕ
-invalid_module_text (Member group member) rule =
-    codes "InvalidModule: group " ++ decimal group ++ codes " member " ++ decimal member ++ codes ": " ++ rule_word rule
+abbrev pub build_text : List ℕ → BuildRefusal → List ℕ
+build_text code why = code ++ codes ": " ++ build_refusal_text why
 
 -- the code of a refusal, and what was refused
 abbrev pub refusal_text : Refusal → List ℕ
-refusal_text (refusals.Full full) = full_text full
-refusal_text (refusals.InvalidModule place rule) = invalid_module_text place rule
-refusal_text refusals.NoGc = codes "NoGc: cannot define this type without a GC runtime enabled"
+refusal_text (refusals.Full full) = build_text (codes "Full") (build.Full full)
+refusal_text (refusals.InvalidModule place rule) = build_text (codes "InvalidModule") (build.InvalidModule place rule)
+refusal_text (refusals.FinalSupertype supertype) = build_text (codes "FinalSupertype") (build.FinalSupertype supertype)
+refusal_text (refusals.SupertypeMismatch kind) = build_text (codes "SupertypeMismatch") (build.SupertypeMismatch kind)
+refusal_text (refusals.TooManyFields fields) = build_text (codes "TooManyFields") (build.TooManyFields fields)
+refusal_text (refusals.TagHasResults results) = build_text (codes "TagHasResults") (build.TagHasResults results)
+refusal_text refusals.NoGc = build_text (codes "NoGc") build.NoGc
 refusal_text (refusals.NoSuchHandle party kind handle) = no_such_handle_text party kind handle
 refusal_text (refusals.NoSuchType party handle ty) = no_such_type_text party handle ty
 

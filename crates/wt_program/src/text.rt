@@ -1,30 +1,15 @@
 //! The reply lines.
 
-ghost use Rattle.std.specs.Prelude.{◌≡◌, ◌++◌, IfOk, OnOk, string_bytes};
+ghost use Rattle.std.specs.Prelude.{◌≡◌, ◌++◌, IfOk, OnOk, codes, string_bytes};
 ghost use Rattle.std.specs.List.{flat_map};
-ghost use Rattle.wt_program.specs.Text.{limit_word, answer_word, indices_text, group_text, word_line, swept_line, live_line, full_text, kind_word, no_such_handle_text, no_such_type_text, rule_word, invalid_module_text, later_index_text, module_line, refusal_text, refused_line, line_of, text_of};
+ghost use Rattle.wt_program.specs.Text.{answer_word, indices_text, group_text, word_line, swept_line, live_line, kind_word, no_such_handle_text, no_such_type_text, later_index_text, module_line, build_text, refusal_text, refused_line, line_of, text_of};
 
 use std::alloc::Global;
-use wt_env::limits::Limit;
 use wt_env::memory::OutOfMemory;
 use wt_registry::live::LiveGroup;
-use wt_registry::place::{Place, Rule};
-use wt_registry::refusal::Full;
+use wt_registry::refusal::BuildRefusal;
 use wt_registry::swept::Swept;
 use wt_session::reply::{HandleKind, Refusal, Reply};
-
-fn limit_word(limit: Limit) -> &'static str
-    ensures { result.now ≡ limit_word limit }
-{
-    match limit {
-        Limit::Parties => "parties",
-        Limit::Groups => "groups",
-        Limit::Types => "types",
-        Limit::References => "references",
-        Limit::Ever => "ever",
-        Limit::Holds => "holds",
-    }
-}
 
 fn push_made(text: &mut String, handle: u64, index: u32) -> Result<(), OutOfMemory>
     ensures { OnOk result (string_bytes text.new ≡ string_bytes text.old ++ line_of (Reply.TypeMade handle index)) }
@@ -65,15 +50,6 @@ fn push_swept(text: &mut String, swept: Swept) -> Result<(), OutOfMemory>
     }
 }
 
-fn push_full(text: &mut String, full: Full) -> Result<(), OutOfMemory>
-    ensures { OnOk result (string_bytes text.new ≡ string_bytes text.old ++ full_text full) }
-{
-    let limit = limit_word(full.limit);
-    let Full { bound, wanted, .. } = full;
-    write!(text, "Full: {limit} {bound}, wanted {wanted}")?;
-    Ok(())
-}
-
 fn kind_word(kind: HandleKind) -> &'static str
     ensures { result.now ≡ kind_word kind }
 {
@@ -105,38 +81,6 @@ fn push_no_such_type(text: &mut String, party: u32, handle: u32, ty: u32) -> Res
         "NoSuchHandle: party {party} has no type {handle}.{ty}"
     )?;
     Ok(())
-}
-
-fn rule_word(rule: Rule) -> &'static str
-    ensures { result.now ≡ rule_word rule }
-{
-    match rule {
-        Rule::Forward => "forward",
-        Rule::SuperOrder => "super-order",
-        Rule::Kind => "kind",
-        Rule::SuperFinal => "super-final",
-        Rule::SuperKind => "super-kind",
-        Rule::SuperMismatch => "super-mismatch",
-        Rule::ExnOpen => "exn-open",
-        Rule::ExnResults => "exn-results",
-        Rule::ExnFields => "exn-fields",
-    }
-}
-
-fn push_member(text: &mut String, group: u32, member: u32, rule: Rule) -> Result<(), OutOfMemory>
-    ensures { OnOk result (string_bytes text.new ≡ string_bytes text.old ++ invalid_module_text (Place.Member group member) rule) }
-{
-    let rule = rule_word(rule);
-    write!(text, "InvalidModule: group {group} member {member}: {rule}")?;
-    Ok(())
-}
-
-fn push_invalid_module(text: &mut String, place: Place, rule: Rule) -> Result<(), OutOfMemory>
-    ensures { OnOk result (string_bytes text.new ≡ string_bytes text.old ++ invalid_module_text place rule) }
-{
-    match place {
-        Place::Member { group, member } => push_member(text, group, member, rule),
-    }
 }
 
 /// Adds each index after a blank.
@@ -188,24 +132,46 @@ fn push_live(text: &mut String, groups: &[LiveGroup]) -> Result<(), OutOfMemory>
     Ok(())
 }
 
-fn push_refusal(text: &mut String, refusal: &Refusal) -> Result<(), OutOfMemory>
-    ensures { OnOk result (string_bytes text.new ≡ string_bytes text.old ++ refusal_text refusal.now) }
+/// Adds the code of a refused registration, and why it is refused.
+fn push_build(text: &mut String, code: &str, refusal: BuildRefusal) -> Result<(), OutOfMemory>
+    ensures { OnOk result (string_bytes text.new ≡ string_bytes text.old ++ build_text code.now refusal) }
+{
+    write!(text, "{code}: {refusal}")?;
+    Ok(())
+}
+
+fn push_refusal(text: &mut String, refusal: Refusal) -> Result<(), OutOfMemory>
+    ensures { OnOk result (string_bytes text.new ≡ string_bytes text.old ++ refusal_text refusal) }
 {
     match refusal {
-        Refusal::Full(full) => push_full(text, *full),
-        Refusal::InvalidModule { place, rule } => push_invalid_module(text, *place, *rule),
-        Refusal::NoGc => {
-            text.push_str("NoGc: cannot define this type without a GC runtime enabled")?;
-            Ok(())
+        Refusal::Full(full) => push_build(text, "Full", BuildRefusal::Full(full)),
+        Refusal::InvalidModule { place, rule } => {
+            let refusal = BuildRefusal::InvalidModule { place, rule };
+            push_build(text, "InvalidModule", refusal)
         }
+        Refusal::FinalSupertype { supertype } => {
+            let refusal = BuildRefusal::FinalSupertype { supertype };
+            push_build(text, "FinalSupertype", refusal)
+        }
+        Refusal::SupertypeMismatch { kind } => {
+            let refusal = BuildRefusal::SupertypeMismatch { kind };
+            push_build(text, "SupertypeMismatch", refusal)
+        }
+        Refusal::TooManyFields { fields } => {
+            let refusal = BuildRefusal::TooManyFields { fields };
+            push_build(text, "TooManyFields", refusal)
+        }
+        Refusal::TagHasResults { results } => {
+            let refusal = BuildRefusal::TagHasResults { results };
+            push_build(text, "TagHasResults", refusal)
+        }
+        Refusal::NoGc => push_build(text, "NoGc", BuildRefusal::NoGc),
         Refusal::NoSuchHandle {
             party,
             kind,
             handle,
-        } => push_no_such_handle(text, *party, *kind, *handle),
-        Refusal::NoSuchType { party, handle, ty } => {
-            push_no_such_type(text, *party, *handle, *ty)
-        }
+        } => push_no_such_handle(text, party, kind, handle),
+        Refusal::NoSuchType { party, handle, ty } => push_no_such_type(text, party, handle, ty),
     }
 }
 
@@ -213,7 +179,7 @@ fn push_refused(text: &mut String, refusal: &Refusal) -> Result<(), OutOfMemory>
     ensures { OnOk result (string_bytes text.new ≡ string_bytes text.old ++ refused_line refusal.now) }
 {
     text.push_str("refused ")?;
-    push_refusal(text, refusal)?;
+    push_refusal(text, *refusal)?;
     text.push_str("\n")?;
     Ok(())
 }
@@ -252,7 +218,11 @@ pub fn text(alloc: Global, replies: &[Reply]) -> Result<String, OutOfMemory>
 mod tests {
     use super::*;
     use std::test::Fail;
+    use wt_env::limits::Limit;
     use wt_env::seq::Seq;
+    use wt_env::types::{Kind, VMSharedTypeIndex};
+    use wt_registry::place::{Place, Rule};
+    use wt_registry::refusal::Full;
 
     #[test]
     fn writes_one_line_for_each_reply(rt: HostRuntime) -> Result<(), Fail> {
@@ -369,6 +339,46 @@ mod tests {
             };
             let reply = Reply::Refused(Refusal::InvalidModule { place, rule });
             let lines = text(rt.alloc(), &[reply])?;
+            assert_eq!(rt; lines.as_str(), want);
+        }
+        Ok(())
+    }
+
+    #[test]
+    fn writes_why_a_type_of_a_host_is_refused(rt: HostRuntime) -> Result<(), Fail> {
+        let supertype = VMSharedTypeIndex::new(4);
+        let rows = [
+            (
+                Refusal::FinalSupertype { supertype },
+                "refused FinalSupertype: cannot create a subtype of a final supertype\n",
+            ),
+            (
+                Refusal::SupertypeMismatch { kind: Kind::Func },
+                "refused SupertypeMismatch: function type must match its supertype\n",
+            ),
+            (
+                Refusal::SupertypeMismatch { kind: Kind::Struct },
+                "refused SupertypeMismatch: struct fields must match their supertype's fields\n",
+            ),
+            (
+                Refusal::SupertypeMismatch { kind: Kind::Array },
+                "refused SupertypeMismatch: array field type must match its supertype's field type\n",
+            ),
+            (
+                Refusal::TooManyFields { fields: 10_001 },
+                "refused TooManyFields: attempted to define a struct type with 10001 fields, but that is more than the maximum supported number of fields (10000)\n",
+            ),
+            (
+                Refusal::TagHasResults { results: 1 },
+                "refused TagHasResults: Cannot create an exception type from a tag type with results in the signature\n",
+            ),
+            (
+                Refusal::NoGc,
+                "refused NoGc: cannot define this type without a GC runtime enabled\n",
+            ),
+        ];
+        for (refusal, want) in rows {
+            let lines = text(rt.alloc(), &[Reply::Refused(refusal)])?;
             assert_eq!(rt; lines.as_str(), want);
         }
         Ok(())

@@ -4,7 +4,12 @@ use Rattle.std.specs.Option.{option_or}
 use Rattle.std.proofs.lemmas.Bool.{ltb-true}
 use Rattle.wt_rules.specs.declared.place.Place.{Place}
 use Rattle.wt_rules.specs.declared.place.Rule.{Rule}
+use Rattle.wt_rules.specs.declared.host_types.HostBreach.{HostBreach}
+use Rattle.wt_rules.specs.declared.host_types.HostBreach.TheVariants as breach
+use Rattle.wt_rules.specs.HostTypes.{host_breach}
 use Rattle.wt_rules.specs.Rules.{first_broken}
+use Rattle.wt_model.specs.HostRefusals.{breach_refusal}
+use Rattle.wt_model.specs.Indices.{closed_tree}
 use Rattle.wt_model.specs.declared.refusal.Full.{Full}
 use Rattle.wt_model.specs.declared.refusal.BuildRefusal.{BuildRefusal}
 use Rattle.wt_model.specs.declared.refusal.BuildRefusal.TheVariants as why
@@ -30,9 +35,16 @@ or-no_want : (first second : Option BuildRefusal) → IsNoWant first → IsNoWan
 or-no_want None second before after = after
 or-no_want (Some reason) second before after = before
 
-rule-no_want : (registration : Registration) → IsNoWant (rule_refusal registration)
-rule-no_want (host_type ty) = tt
-rule-no_want (module_groups groups) = by (first_broken groups)
+breach-no_want : (broken : Option HostBreach) → IsNoWant (option_map breach_refusal broken)
+breach-no_want (Some (breach.FinalSupertype supertype)) = tt
+breach-no_want (Some (breach.SupertypeMismatch kind)) = tt
+breach-no_want (Some (breach.TooManyFields fields)) = tt
+breach-no_want (Some (breach.TagHasResults results)) = tt
+breach-no_want None = tt
+
+rule-no_want : (registry : Registry) (registration : Registration) → IsNoWant (rule_refusal registry registration)
+rule-no_want registry (host_type ty) = breach-no_want (host_breach (closed_tree registry.made) ty)
+rule-no_want registry (module_groups groups) = by (first_broken groups)
   where
     by : (broken : Option (Place × Rule)) → IsNoWant (option_map (λ at. why.InvalidModule at.0 at.1) broken)
     by (Some at) = tt
@@ -54,13 +66,17 @@ limit-no_want registry party registration = by (passed_limit registry party (reg
 
 no_want : (registry : Registry) (party : ℕ) (registration : Registration) → IsNoWant (registration_refusal registry party registration)
 no_want registry party registration =
-    or-no_want (rule_refusal registration) (option_or (gc_refusal registry registration) (limit_refusal registry party registration)) (rule-no_want registration)
+    or-no_want (rule_refusal registry registration) (option_or (gc_refusal registry registration) (limit_refusal registry party registration)) (rule-no_want registry registration)
     (or-no_want (gc_refusal registry registration) (limit_refusal registry party registration) (gc-no_want registry registration) (limit-no_want registry party registration))
 
 -- ---- the build checks are what is told
 
 told-cause : (reason : BuildRefusal) → IsNoWant (Some reason) → refusal_told (refused reason) ≡ Some (refusal_of reason)
 told-cause (why.InvalidModule place rule) not = refl
+told-cause (why.FinalSupertype supertype) not = refl
+told-cause (why.SupertypeMismatch kind) not = refl
+told-cause (why.TooManyFields fields) not = refl
+told-cause (why.TagHasResults results) not = refl
 told-cause why.NoGc not = refl
 told-cause (why.Full full) not = refl
 told-cause why.OutOfMemory not = absurd not

@@ -44,6 +44,10 @@ check_of world asked = build_check world.registry (has_handle (row_of asked.part
 abbrev pub refusal_told : Cause → Option Refusal
 refusal_told (no_such_handle party kind place) = Some (refusal.NoSuchHandle party kind place)
 refusal_told (refused (why.InvalidModule place rule)) = Some (refusal.InvalidModule place rule)
+refusal_told (refused (why.FinalSupertype supertype)) = Some (refusal.FinalSupertype supertype)
+refusal_told (refused (why.SupertypeMismatch kind)) = Some (refusal.SupertypeMismatch kind)
+refusal_told (refused (why.TooManyFields fields)) = Some (refusal.TooManyFields fields)
+refusal_told (refused (why.TagHasResults results)) = Some (refusal.TagHasResults results)
 refusal_told (refused why.NoGc) = Some refusal.NoGc
 refusal_told (refused (why.Full full)) = Some (refusal.Full full)
 refusal_told (refused why.OutOfMemory) = None

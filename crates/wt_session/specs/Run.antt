@@ -71,6 +71,10 @@ with_type row hold after = record { reply = reply.TypeMade (length row) hold.ind
 -- How a reply tells why a registration is refused. Want of memory is no cause of the build checks.
 abbrev pub refusal_of : BuildRefusal → Refusal
 refusal_of (why.InvalidModule place rule) = refusal.InvalidModule place rule
+refusal_of (why.FinalSupertype supertype) = refusal.FinalSupertype supertype
+refusal_of (why.SupertypeMismatch kind) = refusal.SupertypeMismatch kind
+refusal_of (why.TooManyFields fields) = refusal.TooManyFields fields
+refusal_of (why.TagHasResults results) = refusal.TagHasResults results
 refusal_of why.NoGc = refusal.NoGc
 refusal_of (why.Full full) = refusal.Full full
 refusal_of why.OutOfMemory = refusal.NoGc

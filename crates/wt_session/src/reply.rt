@@ -1,6 +1,7 @@
 //! What a session answers to a command.
 
 use wt_env::seq::Seq;
+use wt_env::types::{Kind, VMSharedTypeIndex};
 pub use wt_registry::handle_kind::HandleKind;
 use wt_registry::live::LiveGroup;
 use wt_registry::place::{Place, Rule};
@@ -16,6 +17,22 @@ pub enum Refusal {
     InvalidModule {
         place: Place,
         rule: Rule,
+    },
+    /// The supertype of a host's type, which has this index, is final.
+    FinalSupertype {
+        supertype: VMSharedTypeIndex,
+    },
+    /// The shape of a host's type, of this kind, doesn't match its supertype's.
+    SupertypeMismatch {
+        kind: Kind,
+    },
+    /// A host's struct has so many fields, which are more than 10,000.
+    TooManyFields {
+        fields: u64,
+    },
+    /// The function of a host's exception has so many results.
+    TagHasResults {
+        results: u64,
     },
     /// The engine has no garbage collection, and some type is no function.
     NoGc,

@@ -36,14 +36,17 @@ pub(crate) fn no_such_handle(party: u32, kind: HandleKind, handle: u32) -> Refus
 pub(crate) fn refuse(why: BuildRefusal) -> Result<Reply, OutOfMemory>
     ensures { IfOk result (λ reply. (reply ≡ Reply.Refused (refusal_of why)) × (why ≢ BuildRefusal.OutOfMemory)) }
 {
-    match why {
-        BuildRefusal::InvalidModule { place, rule } => {
-            Ok(Reply::Refused(Refusal::InvalidModule { place, rule }))
-        }
-        BuildRefusal::NoGc => Ok(Reply::Refused(Refusal::NoGc)),
-        BuildRefusal::Full(full) => Ok(Reply::Refused(Refusal::Full(full))),
-        BuildRefusal::OutOfMemory => Err(OutOfMemory),
-    }
+    let refusal = match why {
+        BuildRefusal::InvalidModule { place, rule } => Refusal::InvalidModule { place, rule },
+        BuildRefusal::FinalSupertype { supertype } => Refusal::FinalSupertype { supertype },
+        BuildRefusal::SupertypeMismatch { kind } => Refusal::SupertypeMismatch { kind },
+        BuildRefusal::TooManyFields { fields } => Refusal::TooManyFields { fields },
+        BuildRefusal::TagHasResults { results } => Refusal::TagHasResults { results },
+        BuildRefusal::NoGc => Refusal::NoGc,
+        BuildRefusal::Full(full) => Refusal::Full(full),
+        BuildRefusal::OutOfMemory => return Err(OutOfMemory),
+    };
+    Ok(Reply::Refused(refusal))
 }
 
 /// Puts a handle after the others, and replies with its number.

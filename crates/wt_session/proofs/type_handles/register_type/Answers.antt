@@ -3,6 +3,8 @@ use Rattle.std.proofs.Common.{◌≡◌, true, List, [], ◌∷◌, map, ◌++�
 use Rattle.wt_env.specs.declared.types.WasmSubType.{WasmSubType}
 use Rattle.wt_tree.specs.NumberFunction.{is_number_function}
 use Rattle.wt_tree.specs.Tree.{ClosedTree}
+use Rattle.wt_rules.proofs.Unchanging.{number-host}
+use Rattle.wt_registry.specs.Indices.{closed_tree}
 use Rattle.wt_registry.specs.Describe.{tree_of}
 use Rattle.wt_registry.specs.Registration.{host_type, trees_of}
 use Rattle.wt_session.specs.declared.handle.Handle.{Handle}
@@ -16,9 +18,10 @@ use Rattle.wt_session.proofs.HandlesKept.{keeps-more}
 use Rattle.wt_session.proofs.HostTypes.{is_number_function-host}
 use Rattle.wt_session.proofs.type_handles.register_type.Goals as goal
 
-pub new-requires-clause-plain : goal.new-requires-clause-plain
-new-requires-clause-plain c =
-    subst (λ ty. is_number_function ty ≡ true) (sym c.in_ok-ty.ensures) (is_number_function-host c.args.sub.now)
+pub new-requires-clause-host : goal.new-requires-clause-host
+new-requires-clause-host c =
+    number-host (closed_tree c.args.registry.now.made) c.in_ok-ty.ty
+    (subst (λ ty. is_number_function ty ≡ true) (sym c.in_ok-ty.ensures) (is_number_function-host c.args.sub.now))
 
 pub returns-in-Ok-clause-named : goal.returns-in-Ok-clause-named
 returns-in-Ok-clause-named c =
