@@ -6,3 +6,4 @@ pub mod plan
 pub mod subtyping
 pub mod NamedTypes
 pub mod Trampolines
+pub mod HostExceptionTypes

@@ -4,6 +4,8 @@ pub mod NamedTypes
 pub mod Indices
 pub mod Describe
 pub mod Subtyping
+pub mod Shown
+pub mod HostExceptions
 pub mod Trampolines
 pub mod Reach
 pub mod Holds
@@ -16,5 +18,4 @@ pub mod Registration
 pub mod Removal
 pub mod Sound
 pub mod Changes
-pub mod Shown
 pub mod Live

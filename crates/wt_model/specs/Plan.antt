@@ -1,7 +1,9 @@
 -- What a registration of groups comes to, before any limit is tested and any hold is added.
-use Rattle.std.specs.Prelude.{◌≡◌, ℕ, ◌+◌, ◌⊎◌, List, [], ◌∷◌, ◌++◌, length, Option, Some, None}
+use Rattle.std.specs.Prelude.{◌≡◌, ℕ, ◌+◌, List, [], ◌∷◌, ◌++◌, length, slice_get, unwrap_or, Option, Some, None}
 use Rattle.wt_env.specs.Among.{Among}
 use Rattle.wt_env.specs.declared.types.VMSharedTypeIndex.{VMSharedTypeIndex}
+use Rattle.wt_env.specs.declared.types.EngineOrModuleTypeIndex.TheVariants as index
+use Rattle.wt_env.specs.declared.types.WasmValType.{WasmValType}
 use Rattle.wt_env.specs.declared.types.WasmSubType.{WasmSubType}
 use Rattle.wt_env.specs.declared.types.WasmRecGroup.{WasmRecGroup}
 use Rattle.wt_tree.specs.Canonical.{canonical_index}
@@ -12,6 +14,7 @@ use Rattle.wt_model.specs.declared.ever.EverRegistered.{EverRegistered}
 use Rattle.wt_model.specs.Registered.{RegisteredGroup, Registry}
 use Rattle.wt_model.specs.Indices.{used, assign_shared_type_indices}
 use Rattle.wt_model.specs.Describe.{describe, tree_of, find_tree}
+use Rattle.wt_model.specs.HostExceptions.{exception_function, exception_over}
 use Rattle.wt_model.specs.Trampolines.{trampoline_numbers}
 use Rattle.wt_model.specs.Reach.{edges, Reach}
 
@@ -95,6 +98,21 @@ plan_group plan group = plan_key plan (map_group_refs (canonical_index (length p
 abbrev pub plan_groups : Plan → List WasmRecGroup → Plan
 plan_groups plan [] = plan
 plan_groups plan (group ∷ groups) = plan_groups (plan_group plan group) groups
+
+-- ---- an exception of a host
+
+-- nothing occurs yet of what was planned
+abbrev pub without_occurrences : Plan → Plan
+without_occurrences plan = record plan { numbers = []; map = [] }
+
+abbrev pub first_index : List VMSharedTypeIndex → VMSharedTypeIndex
+first_index map = unwrap_or (slice_get map 0) (record { 0 = 0 })
+
+-- The exception that holds these, behind its function type, which doesn't occur by itself.
+abbrev pub plan_exception : Plan → List WasmValType → Plan
+plan_exception plan fields =
+    let function = plan_key plan (exception_function fields ∷ []) in
+    plan_key (without_occurrences function) (exception_over (index.Engine (first_index function.map)) fields ∷ [])
 
 -- Edges lead to each new group from one that occurs; and what occurs is registered or new.
 pub record Occurs (plan : Plan) : Type 0 where

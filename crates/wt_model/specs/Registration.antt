@@ -1,8 +1,8 @@
 -- Registrations: the build checks, and what an accepted registration makes.
-use Rattle.std.specs.Prelude.{◌≡◌, ℕ, ◌+◌, ◌⊎◌, List, [], ◌∷◌, ◌++◌, map, replicate, slice_get, unwrap_or, Bool, false, nat_lt, ◌||◌, if◌then◌else◌, Option, Some, None, option_map, Result, Ok, Err}
+use Rattle.std.specs.Prelude.{◌≡◌, ℕ, ◌⊎◌, List, [], ◌∷◌, ◌++◌, map, replicate, slice_get, unwrap_or, Bool, false, ◌||◌, if◌then◌else◌, Option, Some, None, option_map, Result, Ok, Err}
 use Rattle.std.specs.Option.{option_or}
 use Rattle.wt_env.specs.Limits.{EngineParts}
-use Rattle.wt_env.specs.declared.limits.Limit.TheVariants.{Parties}
+use Rattle.wt_env.specs.declared.types.WasmValType.{WasmValType}
 use Rattle.wt_env.specs.declared.types.WasmSubType.{WasmSubType}
 use Rattle.wt_env.specs.declared.types.WasmRecGroup.{WasmRecGroup}
 use Rattle.wt_tree.specs.Tree.{ClosedTree}
@@ -11,32 +11,36 @@ use Rattle.wt_rules.specs.declared.place.Place.{Place}
 use Rattle.wt_rules.specs.declared.place.Rule.{Rule}
 use Rattle.wt_rules.specs.HostTypes.{host_breach}
 use Rattle.wt_rules.specs.Rules.{first_broken, is_function, are_functions}
-use Rattle.wt_model.specs.declared.handle_kind.HandleKind.{HandleKind}
 use Rattle.wt_model.specs.declared.refusal.BuildRefusal.{BuildRefusal}
 use Rattle.wt_model.specs.declared.refusal.BuildRefusal.TheVariants as refusal
 use Rattle.wt_model.specs.Registered.{RegisteredGroup, GroupHolds, Registry}
 use Rattle.wt_model.specs.Describe.{tree_of}
+use Rattle.wt_model.specs.HostExceptions.{exception_tree}
 use Rattle.wt_model.specs.HostRefusals.{breach_refusal}
 use Rattle.wt_model.specs.Indices.{closed_tree}
 use Rattle.wt_model.specs.Trampolines.{trampolines_of}
 use Rattle.wt_model.specs.Reach.{edges}
 use Rattle.wt_model.specs.Holds.{Hold, Collection, stop_waiting, hold_each}
-use Rattle.wt_model.specs.Plan.{Plan, empty_plan, groups_of, plan_key, plan_groups}
+use Rattle.wt_model.specs.Plan.{Plan, empty_plan, groups_of, first_index, plan_key, plan_exception, plan_groups}
 use Rattle.wt_model.specs.Limits.{passed_limit}
 
--- What is to be registered: one type of a host, whose references are engine indices, or the groups of a module.
+-- What is to be registered: one type of a host, whose references are engine indices, the exception of a host that holds
+-- these values, whose function type is registered with it, or the groups of a module.
 pub data Registration : Type 0 where
   host_type : WasmSubType → Registration
+  host_exception : List WasmValType → Registration
   module_groups : List WasmRecGroup → Registration
 
 -- The closed trees of what is to be registered, where these groups are registered.
 abbrev pub trees_of : List RegisteredGroup → Registration → List ClosedTree
 trees_of made (host_type ty) = record { tree = tree_of made (ty ∷ []); place = 0 } ∷ []
+trees_of made (host_exception fields) = record { tree = exception_tree made fields; place = 0 } ∷ []
 trees_of made (module_groups groups) = module_trees [] groups
 
 -- what it comes to, where it is accepted
 abbrev pub registration_plan : Registry → Registration → Plan
 registration_plan registry (host_type ty) = plan_key (empty_plan registry) (ty ∷ [])
+registration_plan registry (host_exception fields) = plan_exception (empty_plan registry) fields
 registration_plan registry (module_groups groups) = plan_groups (empty_plan registry) groups
 
 -- ---- the build checks
@@ -47,11 +51,13 @@ invalid_module broken = refusal.InvalidModule broken.0 broken.1
 -- the first cause by the type of a host, or by the first rule of module types that is broken
 abbrev pub rule_refusal : Registry → Registration → Option BuildRefusal
 rule_refusal registry (host_type ty) = option_map breach_refusal (host_breach (closed_tree registry.made) ty)
+rule_refusal registry (host_exception fields) = None
 rule_refusal registry (module_groups groups) = option_map invalid_module (first_broken groups)
 
 -- whether it has functions alone
 abbrev pub has_functions_alone : Registration → Bool
 has_functions_alone (host_type ty) = is_function ty
+has_functions_alone (host_exception fields) = false
 has_functions_alone (module_groups groups) = are_functions groups
 
 -- an engine without garbage collection takes functions alone
@@ -67,36 +73,6 @@ limit_refusal registry party registration = option_map refusal.Full (passed_limi
 abbrev pub registration_refusal : Registry → ℕ → Registration → Option BuildRefusal
 registration_refusal registry party registration =
     option_or (rule_refusal registry registration) (option_or (gc_refusal registry registration) (limit_refusal registry party registration))
-
--- A registration as a command asks for it: the party whose command it is, the handles that it names, in the
--- order of its keys and with the kind that each has to be of, and what is to be registered.
-pub record RegistrationCommand : Type 0 where
-  pub party : ℕ
-  pub handles : List (HandleKind × ℕ)
-  pub registration : Registration
-
--- why a registration of a command is refused
-pub data Cause : Type 0 where
-  no_such_handle : ℕ → HandleKind → ℕ → Cause
-  refused : BuildRefusal → Cause
-
--- the limit on parties, where the party's number isn't below it
-abbrev pub party_refusal : Registry → ℕ → Option BuildRefusal
-party_refusal registry party =
-    if nat_lt party registry.engine.limits.parties then None
-    else Some (refusal.Full (record { limit = Parties; bound = registry.engine.limits.parties; wanted = party + 1 }))
-
--- The build checks: the first cause for which a registration of a command is refused, if there is one, where
--- the party's handles are of these kinds. The party's limit comes first, then the handles, then all else.
-abbrev pub build_check : Registry → (HandleKind → ℕ → Bool) → RegistrationCommand → Option Cause
-build_check registry has command =
-    option_or (option_map refused (party_refusal registry command.party))
-    (option_or (missing_handle command.party has command.handles)
-    (option_map refused (registration_refusal registry command.party command.registration)))
-  where
-    missing_handle : ℕ → (HandleKind → ℕ → Bool) → List (HandleKind × ℕ) → Option Cause
-    missing_handle party has [] = None
-    missing_handle party has (named ∷ rest) = if has named.0 named.1 then missing_handle party has rest else Some (no_such_handle party named.0 named.1)
 
 -- ---- what an accepted registration makes
 
@@ -126,16 +102,24 @@ made_unless (Some why) made = Err why
 abbrev pub hold_of : ℕ → ℕ → Plan → Hold
 hold_of engine party plan = record {
   engine = engine;
-  index = unwrap_or (slice_get plan.map 0) (record { 0 = 0 });
+  index = first_index plan.map;
   number = unwrap_or (slice_get plan.numbers 0) 0;
   party = party;
 }
 
--- A registration of one type by a party: its hold and the registry after it, or the first cause why not.
+-- A registration of what is one type by a party: its hold and the registry after it, or the first cause why not.
+abbrev pub register_one : Registry → ℕ → Registration → Result (Hold × Registry) BuildRefusal
+register_one registry party registration =
+    let plan = registration_plan registry registration in
+    made_unless (registration_refusal registry party registration) (hold_of registry.engine.number party plan, carried_out registry party plan)
+
+-- that of one type of a host
 abbrev pub register : Registry → ℕ → WasmSubType → Result (Hold × Registry) BuildRefusal
-register registry party ty =
-    let plan = registration_plan registry (host_type ty) in
-    made_unless (registration_refusal registry party (host_type ty)) (hold_of registry.engine.number party plan, carried_out registry party plan)
+register registry party ty = register_one registry party (host_type ty)
+
+-- and that of the exception that holds these
+abbrev pub register_exception : Registry → ℕ → List WasmValType → Result (Hold × Registry) BuildRefusal
+register_exception registry party fields = register_one registry party (host_exception fields)
 
 abbrev pub collection_of : ℕ → ℕ → Plan → Collection
 collection_of engine party plan = record {

@@ -5,6 +5,7 @@
 
 pub mod ever;
 pub mod handle_kind;
+pub mod host_exception;
 pub mod live;
 pub mod refusal;
 pub mod swept;

@@ -1,19 +1,14 @@
 -- Where no earlier cause holds, a registration is refused by a limit or not at all.
 use Rattle.std.proofs.Common.{◌≡◌, ℕ, ◌⊎◌, inl, inr, Bool, true, false, cond, ◌||◌, List, Option, Some, None, option_map, refl, ap}
 use Rattle.std.specs.Option.{option_or}
-use Rattle.wt_env.specs.declared.types.WasmSubType.{WasmSubType}
 use Rattle.wt_env.specs.declared.types.WasmRecGroup.{WasmRecGroup}
 use Rattle.wt_rules.specs.declared.place.Place.{Place}
 use Rattle.wt_rules.specs.declared.place.Rule.{Rule}
-use Rattle.wt_rules.specs.declared.host_types.HostBreach.{HostBreach}
-use Rattle.wt_rules.specs.HostTypes.{host_breach}
-use Rattle.wt_model.specs.HostRefusals.{breach_refusal}
-use Rattle.wt_model.specs.Indices.{closed_tree}
-use Rattle.wt_rules.specs.Rules.{is_function, are_functions, first_broken}
+use Rattle.wt_rules.specs.Rules.{are_functions, first_broken}
 use Rattle.wt_model.specs.declared.refusal.BuildRefusal.TheVariants as refusal
 use Rattle.wt_model.specs.Registered.{Registry}
 use Rattle.wt_model.specs.Limits.{passed_limit}
-use Rattle.wt_model.specs.Registration.{Registration, host_type, module_groups, registration_plan, invalid_module, rule_refusal, has_functions_alone, gc_refusal, limit_refusal, registration_refusal}
+use Rattle.wt_model.specs.Registration.{Registration, module_groups, registration_plan, invalid_module, rule_refusal, has_functions_alone, gc_refusal, limit_refusal, registration_refusal}
 
 -- garbage collection, or functions alone
 allowed : (gc functions : Bool) → (gc ≡ true) ⊎ (functions ≡ true) → (gc || functions) ≡ true
@@ -21,33 +16,18 @@ allowed true functions may = refl
 allowed false functions (inl gc) = ap (λ b. b || functions) gc
 allowed false functions (inr alone) = alone
 
-gc-allowed : (registry : Registry) (registration : Registration) → (registry.engine.gc ≡ true) ⊎ (has_functions_alone registration ≡ true) → gc_refusal registry registration ≡ None
+pub gc-allowed : (registry : Registry) (registration : Registration) → (registry.engine.gc ≡ true) ⊎ (has_functions_alone registration ≡ true) → gc_refusal registry registration ≡ None
 gc-allowed registry registration may = ap (λ b. cond b None (Some refusal.NoGc)) (allowed registry.engine.gc (has_functions_alone registration) may)
 
-by_limit : (registry : Registry) (party : ℕ) (registration : Registration) → rule_refusal registry registration ≡ None → gc_refusal registry registration ≡ None
+-- where neither a rule nor garbage collection refuses it
+pub by-limit : (registry : Registry) (party : ℕ) (registration : Registration) → rule_refusal registry registration ≡ None → gc_refusal registry registration ≡ None
     → registration_refusal registry party registration ≡ limit_refusal registry party registration
-by_limit registry party registration rules gc = λ i. option_or (rules i) (option_or (gc i) (limit_refusal registry party registration))
-
--- what a type of a host breaks is the first cause
-pub host-broken : (registry : Registry) (party : ℕ) (ty : WasmSubType) (broken : HostBreach) → host_breach (closed_tree registry.made) ty ≡ Some broken
-    → registration_refusal registry party (host_type ty) ≡ Some (breach_refusal broken)
-host-broken registry party ty broken is =
-    ap (λ (found : Option HostBreach). option_or (option_map breach_refusal found) (option_or (gc_refusal registry (host_type ty)) (limit_refusal registry party (host_type ty)))) is
-
-pub host-no_gc : (registry : Registry) (party : ℕ) (ty : WasmSubType) → host_breach (closed_tree registry.made) ty ≡ None → registry.engine.gc ≡ false → is_function ty ≡ false
-    → registration_refusal registry party (host_type ty) ≡ Some refusal.NoGc
-host-no_gc registry party ty none gc function =
-    (λ i. option_or (option_map breach_refusal (none i))
-    (option_or (cond (gc i || function i) None (Some refusal.NoGc)) (limit_refusal registry party (host_type ty))))
-
-pub host-refusal : (registry : Registry) (party : ℕ) (ty : WasmSubType) → host_breach (closed_tree registry.made) ty ≡ None → (registry.engine.gc ≡ true) ⊎ (is_function ty ≡ true)
-    → registration_refusal registry party (host_type ty) ≡ option_map refusal.Full (passed_limit registry party (registration_plan registry (host_type ty)))
-host-refusal registry party ty none may = by_limit registry party (host_type ty) (ap (option_map breach_refusal) none) (gc-allowed registry (host_type ty) may)
+by-limit registry party registration rules gc = λ i. option_or (rules i) (option_or (gc i) (limit_refusal registry party registration))
 
 pub module-refusal : (registry : Registry) (party : ℕ) (groups : List WasmRecGroup) → first_broken groups ≡ None → (registry.engine.gc ≡ true) ⊎ (are_functions groups ≡ true)
     → registration_refusal registry party (module_groups groups) ≡ option_map refusal.Full (passed_limit registry party (registration_plan registry (module_groups groups)))
 module-refusal registry party groups rules may =
-    by_limit registry party (module_groups groups) (ap (option_map invalid_module) rules) (gc-allowed registry (module_groups groups) may)
+    by-limit registry party (module_groups groups) (ap (option_map invalid_module) rules) (gc-allowed registry (module_groups groups) may)
 
 -- a broken rule is the first cause
 pub module-broken : (registry : Registry) (party : ℕ) (groups : List WasmRecGroup) (place : Place) (rule : Rule) → first_broken groups ≡ Some (place, rule)
