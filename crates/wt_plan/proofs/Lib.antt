@@ -14,3 +14,5 @@ pub mod RulesKept
 pub mod CheckedGroups
 pub mod PlannedGroups
 pub mod HostReferences
+pub mod HostPlans
+pub mod ExceptionPlans

@@ -10,7 +10,9 @@ use Rattle.wt_tree.specs.ModuleTree.{module_trees}
 use Rattle.wt_tree.specs.Tree.{ClosedTree}
 use Rattle.wt_tree.specs.Trampoline.{is_own_trampoline, other_trampoline}
 use Rattle.wt_model.specs.Registered.{RegisteredGroup}
-use Rattle.wt_model.specs.Indices.{used, closed_tree}
+use Rattle.wt_model.specs.declared.ever.EverRegistered.{EverRegistered}
+use Rattle.wt_model.specs.Indices.{used, locate, closed_tree}
+use Rattle.wt_model.specs.Reach.{Reach}
 use Rattle.wt_model.specs.Trampolines.{IsTrampoline, TellsTrampoline, TellTrampolines}
 use Rattle.wt_model.specs.Plan.{Plan, Occurs, plan_trampolines, plan_group, plan_groups}
 use Rattle.wt_model.specs.Sound.{KeepRules}
@@ -125,3 +127,31 @@ pub record PlansModule (entries : List RecGroupEntry) (first plan : PlanFields) 
   pub occurs : Occurs (plan_of entries plan)
   pub named : AreNamed entries plan (module_trees [] groups)
   pub rules : KeepRules (made_by (entries ++ plan.added.items))
+
+-- ---- one type of a host
+
+-- nothing is planned yet, where so much was registered
+abbrev pub nothing_planned : List RecGroupEntry → EverRegistered → Plan
+nothing_planned entries given = record { registered = made_by entries; added = []; given = given; numbers = []; map = [] }
+
+-- One type was planned, the only one of its group, where registrations had numbers up to this one: the groups that are new
+-- have keys that no other has, indices of their own, and the form in which they are shown; edges lead to each of them from
+-- the type's group, which has this number; the type has this index; and no type breaks a rule on what it names.
+pub record PlansType (entries : List RecGroupEntry) (top : ℕ) (plan : PlanFields) (number : ℕ) (i : VMSharedTypeIndex) : Type 0 where
+  pub keys : AreKeys (entries ++ plan.added.items) plan.given.numbers
+  pub new : AreNewKeys entries top plan.added.items
+  pub given : plan.given.numbers ≡ top + length plan.added.items
+  pub shown : AreShown plan.added.items
+  pub below : AreNewBelow entries plan.added.items
+  pub stands : (entry : RecGroupEntry) × Among entry (entries ++ plan.added.items) × (entry.number ≡ number)
+  pub led : (entry : RecGroupEntry) → Among entry plan.added.items → Reach (made_by (entries ++ plan.added.items)) number entry.number
+  pub located : locate (made_by (entries ++ plan.added.items)) i ≡ Some (number, 0)
+  pub rules : KeepRules (made_by (entries ++ plan.added.items))
+
+-- The same, and this type alone occurs.
+pub record PlansHost (entries : List RecGroupEntry) (top : ℕ) (plan : PlanFields) : Type 0 where
+  pub number : ℕ
+  pub index : VMSharedTypeIndex
+  pub plans : PlansType entries top plan number index
+  pub numbers : plan.numbers.items ≡ number ∷ []
+  pub map : plan.map.items ≡ index ∷ []

@@ -2,5 +2,6 @@
 //! before anything is changed.
 #![tactic(auto)]
 
+pub mod host_plan;
 pub mod module_plan;
 pub mod plan;
