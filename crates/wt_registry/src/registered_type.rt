@@ -1,17 +1,26 @@
 //! Holds of registered types, and the parties that have them.
 
-ghost use Rattle.std.specs.Prelude.{◌≡◌, ◌<◌, ◌≤◌, [], ◌∷◌, map, IfOk, IfErr, IfSome, IfNone, OnSome, OnOk, OnErr, Ok, Err, None, Some, true};
+ghost use Rattle.std.specs.Prelude.{◌≡◌, ◌<◌, ◌≤◌, [], ◌∷◌, map, option_map, IfOk, IfErr, IfSome, IfNone, OnSome, OnOk, OnErr, Ok, Err, None, Some, true};
 ghost use Rattle.wt_tree.specs.NumberFunction.{is_number, is_number_function};
+ghost use Rattle.wt_model.specs.Changes.{HoldChanges};
 ghost use Rattle.wt_model.specs.Holds.{IsHeld};
+ghost use Rattle.wt_model.specs.Limits.{passed_limit};
+ghost use Rattle.wt_model.specs.Registration.{carried_out, hold_of, IsRefusal};
+ghost use Rattle.wt_holds.specs.Kept.{AreKept, registry_at};
+ghost use Rattle.wt_plan.specs.Planned.{plan_of, PlansHost};
 
 use crate::debt::Debt;
 use crate::enter::check_and_commit;
 use crate::registry::TypeRegistry;
+use std::alloc::Global;
 use std::hash::{Hash, Hasher};
 use std::marker::Model;
-use wt_env::types::{VMSharedTypeIndex, WasmRecGroup, WasmSubType};
+use wt_env::limits::Engine;
+use wt_env::types::{VMSharedTypeIndex, WasmSubType, WasmValType};
+use wt_holds::inner::TypeRegistryInner;
 use wt_model::refusal::{BuildRefusal, Full};
-use wt_plan::plan::{Plan, plan_key};
+use wt_plan::host_plan::{plan_exception, plan_host_type};
+use wt_plan::plan::Plan;
 
 /// A party of an engine, by its number.
 #[derive(Debug, Drop)]
@@ -98,12 +107,44 @@ impl Hash for RegisteredType {
     }
 }
 
+/// Carries the plan of one type of a host out for a party, and gives the party its hold; or tells the first limit that
+/// the plan would pass.
+fn commit_host(
+    alloc: Global,
+    engine: &Engine,
+    groups: &mut TypeRegistryInner,
+    party: u32,
+    plan: Plan,
+) -> Result<RegisteredType, BuildRefusal>
+    requires kept { AreKept engine.now groups.old }
+    requires party { party < engine.now.limits.parties }
+    requires plans { PlansHost groups.old.entries.items groups.old.given.numbers plan }
+    ensures accepted { OnOk result (passed_limit (registry_at engine.now groups.old) party (plan_of groups.old.entries.items plan) ≡ None) }
+    ensures ok { OnOk result (carried_out (registry_at engine.now groups.old) party (plan_of groups.old.entries.items plan) ≡ registry_at engine.now groups.new) }
+    ensures hold { IfOk result (λ hold. hold_of engine.now.number party (plan_of groups.old.entries.items plan) ≡ hold) }
+    ensures only { IfOk result (λ hold. plan.map.items ≡ hold.index ∷ []) }
+    ensures changes { IfOk result (λ hold. HoldChanges (registry_at engine.now groups.old) (registry_at engine.now groups.new) party (hold.number ∷ [])) }
+    ensures held { IfOk result (λ hold. IsHeld (registry_at engine.now groups.new) hold) }
+    ensures refused { IfErr result (λ why. IsRefusal (option_map BuildRefusal.Full (passed_limit (registry_at engine.now groups.old) party (plan_of groups.old.entries.items plan))) why) }
+    ensures err { OnErr result (registry_at engine.now groups.new ≡ registry_at engine.now groups.old) }
+    ensures kept { AreKept engine.now groups.new }
+{
+    let (numbers, map) = check_and_commit(alloc, engine, groups, party, plan)?;
+    Ok(RegisteredType {
+        engine: engine.number(),
+        index: map[0],
+        number: numbers[0],
+        party,
+    })
+}
+
 impl RegisteredType {
     ghost use Rattle.wt_rules.specs.HostTypes.{is_host_type};
     ghost use Rattle.wt_model.specs.Indices.{closed_tree};
     ghost use Rattle.wt_model.specs.Shown.{sub_type_at};
     ghost use Rattle.wt_model.specs.Holds.{root as root_of, hold};
-    ghost use Rattle.wt_model.specs.Registration.{host_type, trees_of, registration_refusal, IsRefusal, register};
+    ghost use Rattle.wt_model.specs.HostExceptions.{exception_function};
+    ghost use Rattle.wt_model.specs.Registration.{host_type, host_exception, trees_of, registration_refusal, IsRefusal, register, register_exception};
     ghost use Rattle.wt_model.specs.Removal.{drop_hold as drop_of};
     ghost use Rattle.wt_model.specs.Sound.{IsSound};
     ghost use Rattle.wt_model.specs.Changes.{HoldChanges, DropChanges, IsStillReached};
@@ -137,27 +178,61 @@ impl RegisteredType {
         ensures held { IfOk result (λ hold. IsHeld registry.new hold) }
         ensures sound { IsSound registry.new }
     {
-        let owner = party.number();
         if let Some(why) = registry.host_refusal(&ty) {
             return Err(why);
         }
-        let key = WasmRecGroup::alone(registry.alloc, ty)?;
-        let mut plan = Plan::new(registry.alloc, registry.groups.given);
         let entries = registry.groups.entries.as_slice();
-        plan_key(registry.alloc, entries, &mut plan, key)?;
-        let (numbers, map) = check_and_commit(
+        let plan = plan_host_type(registry.alloc, entries, registry.groups.given, ty)?;
+        commit_host(
             registry.alloc,
             &registry.engine,
             &mut registry.groups,
-            owner,
+            party.number(),
             plan,
-        )?;
-        Ok(RegisteredType {
-            engine: registry.engine.number(),
-            index: map[0],
-            number: numbers[0],
-            party: owner,
-        })
+        )
+    }
+
+    /// Registers the exception of a host that holds values of these types, and its function type, which has them as its
+    /// parameters, for a party; and gives the party one hold of the exception (after wasmtime). Either is the registered
+    /// type that has its closed tree, where there is one. The function type is held by the exception alone.
+    ///
+    /// The type indices are engine indices of registered types: what `TypeRegistry::is_host_type` tests of the function
+    /// type.
+    ///
+    /// It is refused with `NoGc` where the engine has no garbage collection, and else with `Full` where a limit would be
+    /// passed, on groups, types, references, registration numbers or holds, in this order. A refusal leaves all as before,
+    /// want of memory included.
+    pub fn new_exn(
+        registry: &mut TypeRegistry,
+        party: &mut PartyNumber,
+        fields: &[WasmValType],
+    ) -> Result<RegisteredType, BuildRefusal>
+        requires host { is_host_type (closed_tree registry.old.made) (exception_function fields.now) ≡ true }
+        requires party { party.old < registry.old.engine.limits.parties }
+
+        ensures ok { IfOk result (λ hold. register_exception registry.old party.old fields.now ≡ Ok (hold, registry.new)) }
+        ensures accepted { OnOk result (registration_refusal registry.old party.old (host_exception fields.now) ≡ None) }
+        ensures refused { IfErr result (λ why. IsRefusal (registration_refusal registry.old party.old (host_exception fields.now)) why) }
+        ensures named { IfOk result (λ hold. closed_tree registry.new.made hold.index ∷ [] ≡ map Some (trees_of registry.old.made (host_exception fields.now))) }
+        ensures err { OnErr result (registry.new ≡ registry.old) }
+        ensures party { party.new ≡ party.old }
+        ensures changes { IfOk result (λ hold. HoldChanges registry.old registry.new party.old (hold.number ∷ [])) }
+        ensures owner { IfOk result (λ hold. hold.party ≡ party.old) }
+        ensures held { IfOk result (λ hold. IsHeld registry.new hold) }
+        ensures sound { IsSound registry.new }
+    {
+        if !registry.engine.gc() {
+            return Err(BuildRefusal::NoGc);
+        }
+        let entries = registry.groups.entries.as_slice();
+        let plan = plan_exception(registry.alloc, entries, registry.groups.given, fields)?;
+        commit_host(
+            registry.alloc,
+            &registry.engine,
+            &mut registry.groups,
+            party.number(),
+            plan,
+        )
     }
 
     /// One more hold of the type that has this index; `None` exactly where the index names no registered
@@ -293,13 +368,12 @@ impl RegisteredType {
 #[cfg(test)]
 mod tests {
     use super::*;
-    use std::alloc::Global;
     use std::process::Abort;
     use std::test::Fail;
-    use wt_env::limits::{Engine, EngineLimits, Limit};
+    use wt_env::limits::{EngineLimits, Limit};
     use wt_env::memory::OutOfMemory;
     use wt_env::seq::Seq;
-    use wt_env::types::{WasmCompositeInnerType, WasmFuncType, WasmValType};
+    use wt_env::types::{WasmCompositeInnerType, WasmFuncType};
     use wt_model::swept::Swept;
 
     /// The final function type from one number to another.

@@ -9,12 +9,15 @@ use std::marker::Model;
 use wt_env::limits::Engine;
 use wt_env::memory::OutOfMemory;
 use wt_env::seq::Seq;
-use wt_env::types::{ModuleTypes, VMSharedTypeIndex, WasmSubType};
+use wt_env::types::{
+    EngineOrModuleTypeIndex, ModuleTypes, VMSharedTypeIndex, WasmCompositeInnerType, WasmSubType,
+};
 use wt_holds::inner::TypeRegistryInner;
 use wt_holds::removal::{end_hold, release_groups, sweep_group};
 use wt_keys::search::{borrow_from, live_groups, number_at, trampoline_of};
 use wt_keys::subtyping::is_subtype_of;
 use wt_model::ever::EverRegistered;
+use wt_model::host_exception::exception_over;
 use wt_model::live::LiveGroup;
 use wt_model::refusal::{BuildRefusal, Full};
 use wt_model::swept::Swept;
@@ -52,6 +55,7 @@ impl TypeRegistry {
     ghost use Rattle.wt_tree.specs.Trampoline.{trampoline};
     ghost use Rattle.wt_tree.specs.Subtyping.{TellsSteps};
     ghost use Rattle.wt_tree.specs.Fit.{StepsFit};
+    ghost use Rattle.wt_model.specs.HostExceptions.{tag_exception as tag_exception_of};
     ghost use Rattle.wt_model.specs.Indices.{locate, number_of, closed_tree};
     ghost use Rattle.wt_model.specs.Trampolines.{trampoline_index, trampolines_of};
     ghost use Rattle.wt_model.specs.FunctionIndices.{IsFunctionIndex};
@@ -152,6 +156,29 @@ impl TypeRegistry {
         ensures { result ≡ is_host_type_of (closed_tree self.now.made) ty.now }
     {
         is_host_type(self, ty)
+    }
+
+    /// The exception over the function type that has this index, whose constant fields hold the function's parameters: a
+    /// type that a host may register (after wasmtime). `None` exactly where no registered function type has the index.
+    pub fn tag_exception(
+        &self,
+        index: VMSharedTypeIndex,
+    ) -> Result<Option<WasmSubType>, OutOfMemory>
+        ensures value { IfOk result (λ found. found ≡ tag_exception_of self.now.made index) }
+        ensures host { IfOk result (λ found. (ty : _) → found ≡ Some ty → is_host_type_of (closed_tree self.now.made) ty ≡ true) }
+    {
+        self.tell_invariant();
+        let Some(ty) = self.borrow(index) else {
+            return Ok(None);
+        };
+        match &ty.composite_type {
+            WasmCompositeInnerType::Func(func) => {
+                let function = EngineOrModuleTypeIndex::Engine(index);
+                let params = func.params.as_slice();
+                Ok(Some(exception_over(self.alloc, function, params)?))
+            }
+            _ => Ok(None),
+        }
     }
 
     /// Why a type of a host is refused before any limit is tested, if there is a cause.

@@ -1,7 +1,8 @@
 //! Rows of the types of a host: which it may register, and why one is refused.
 
 use super::*;
-use wt_env::types::{Kind, WasmContType, WasmExnType};
+use wt_env::types::{Kind, WasmContType};
+use wt_model::host_exception::exception_function;
 
 /// A struct with so many constant fields of a byte, and this supertype.
 fn bytes(
@@ -95,13 +96,45 @@ fn a_host_exception_is_of_a_function_without_results(rt: HostRuntime) -> Result<
         results: Seq::one(alloc, WasmValType::I32)?,
     });
     assert_eq!(rt; answered(&rt, &mut registry, final_type(returning)), Ok(0));
-    let exception = WasmCompositeInnerType::Exn(WasmExnType {
-        func_ty: of_engine(0),
-        fields: Seq::new(alloc),
-    });
+    let Some(exception) = registry.tag_exception(VMSharedTypeIndex::new(0))? else {
+        assert!(rt; false, "a function is registered");
+        return Ok(());
+    };
     assert_eq!(rt;
-        answered(&rt, &mut registry, final_type(exception)),
+        answered(&rt, &mut registry, exception),
         Err(BuildRefusal::TagHasResults { results: 1 })
+    );
+    assert!(rt; registry.tag_exception(VMSharedTypeIndex::new(1))?.is_none());
+    Ok(())
+}
+
+/// Registers the exception that holds these, where a host may, and sweeps it: its index, and how many groups went.
+fn swept_exception(
+    rt: &impl Abort,
+    registry: &mut TypeRegistry,
+    fields: &[WasmValType],
+) -> Result<(u32, Swept), BuildRefusal> {
+    assert!(rt; registry.engine().limits().parties > 0);
+    assert!(rt; registry.is_host_type(&exception_function(registry.alloc, fields)?));
+    let mut party = PartyNumber::new(0);
+    let hold = RegisteredType::new_exn(registry, &mut party, fields)?;
+    let index = hold.index().bits();
+    match hold.decref(registry, &mut party) {
+        Some(debt) => Ok((index, registry.sweep(debt))),
+        None => Ok((index, Swept::Kept)),
+    }
+}
+
+#[test]
+fn a_host_exception_goes_with_its_function(rt: HostRuntime) -> Result<(), Fail> {
+    let alloc = rt.alloc();
+    assert!(rt; EngineLimits::USUAL.valid());
+    let engine = Engine::new(1, EngineLimits::USUAL, true);
+    let mut registry = TypeRegistry::new(alloc, &engine);
+    let fields = [WasmValType::I32];
+    assert_eq!(rt;
+        swept_exception(&rt, &mut registry, fields.as_slice()),
+        Ok((1, Swept::Removed(2)))
     );
     Ok(())
 }
