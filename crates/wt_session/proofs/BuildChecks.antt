@@ -15,7 +15,8 @@ use Rattle.wt_model.specs.declared.refusal.BuildRefusal.{BuildRefusal}
 use Rattle.wt_model.specs.declared.refusal.BuildRefusal.TheVariants as why
 use Rattle.wt_registry.specs.Registered.{Registry}
 use Rattle.wt_registry.specs.Limits.{passed_limit}
-use Rattle.wt_registry.specs.Registration.{Registration, host_type, module_groups, registration_plan, has_functions_alone, rule_refusal, gc_refusal, limit_refusal, registration_refusal, hold_of, collection_of, carried_out, made_unless, RegistrationCommand, Cause, refused}
+use Rattle.wt_registry.specs.Registration.{Registration, host_type, host_exception, module_groups, registration_plan, has_functions_alone, rule_refusal, gc_refusal, limit_refusal, registration_refusal, hold_of, collection_of, carried_out, made_unless}
+use Rattle.wt_session.specs.BuildChecks.{RegistrationCommand, Cause, refused}
 use Rattle.wt_session.specs.declared.command.Command.{Command}
 use Rattle.wt_session.specs.declared.command.Command.TheVariants as command
 use Rattle.wt_session.specs.declared.reply.Refusal.TheVariants as refusal
@@ -44,6 +45,7 @@ breach-no_want None = tt
 
 rule-no_want : (registry : Registry) (registration : Registration) → IsNoWant (rule_refusal registry registration)
 rule-no_want registry (host_type ty) = breach-no_want (host_breach (closed_tree registry.made) ty)
+rule-no_want registry (host_exception fields) = tt
 rule-no_want registry (module_groups groups) = by (first_broken groups)
   where
     by : (broken : Option (Place × Rule)) → IsNoWant (option_map (λ at. why.InvalidModule at.0 at.1) broken)

@@ -9,7 +9,7 @@ use Rattle.wt_model.specs.declared.handle_kind.HandleKind.TheVariants as kind
 use Rattle.wt_model.specs.declared.refusal.BuildRefusal.TheVariants as why
 use Rattle.wt_registry.specs.Registered.{RegisteredGroup, Registry}
 use Rattle.wt_registry.specs.Indices.{closed_tree}
-use Rattle.wt_registry.specs.Registration.{trees_of, host_type, module_groups, RegistrationCommand, Cause, no_such_handle, refused, build_check}
+use Rattle.wt_registry.specs.Registration.{trees_of, host_type, module_groups}
 use Rattle.wt_registry.specs.Sound.{OneIndexPerTree}
 use Rattle.wt_session.specs.declared.command.NamedType.{NamedType}
 use Rattle.wt_session.specs.declared.command.Command.{Command}
@@ -19,6 +19,7 @@ use Rattle.wt_session.specs.declared.reply.Refusal.{Refusal}
 use Rattle.wt_session.specs.declared.reply.Refusal.TheVariants as refusal
 use Rattle.wt_session.specs.declared.reply.Reply.{Reply}
 use Rattle.wt_session.specs.declared.reply.Reply.TheVariants as reply
+use Rattle.wt_session.specs.BuildChecks.{RegistrationCommand, Cause, no_such_handle, refused, build_check}
 use Rattle.wt_session.specs.World.{World, party_of, row_of, type_at, debt_at, module_at, index_named, HasExactlyReached}
 use Rattle.wt_session.specs.Run.{sub_type_of, world_after}
 
