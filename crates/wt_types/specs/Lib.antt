@@ -1,2 +1,3 @@
-pub mod Memory
-pub mod MemoryText
+pub mod CoreTypes
+pub mod FromWasm
+pub mod CoreTexts

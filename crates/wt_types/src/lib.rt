@@ -1,6 +1,22 @@
-//! The types of what a store holds. So far these are memory types alone: the settings of a builder, and
-//! which of them are a memory type. They rely on nothing of the crates below, and take no memory.
+//! The types that an embedder registers and holds: of functions, structs, arrays, exceptions and continuations. Each is
+//! one hold of a registered type; what it is made of is asked of it with the registry beside it, and told by names,
+//! which hold nothing.
 #![tactic(auto)]
 
-pub mod memory_refusal;
-pub mod memory_type;
+pub use wt_extern::{extern_type, global_type, memory_refusal, memory_type, table_type, tag_type};
+
+// What the five share,
+mod core_type;
+pub mod iterators;
+pub mod show;
+mod sub_types;
+// and the five.
+pub mod array_type;
+pub mod cont_type;
+#[cfg(test)]
+mod example;
+pub mod exn_type;
+pub mod func_type;
+pub mod struct_type;
+#[cfg(test)]
+mod tests;

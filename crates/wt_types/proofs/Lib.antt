@@ -1,0 +1,5 @@
+pub mod BuiltKinds
+pub mod EngineParts
+pub mod OwnFits
+pub mod ReadBack
+pub mod RootedKinds
