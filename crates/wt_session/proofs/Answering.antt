@@ -12,25 +12,32 @@ use Rattle.wt_registry.specs.Registered.{RegisteredGroup, Registry}
 use Rattle.wt_registry.specs.Holds.{Hold, root, hold as held}
 use Rattle.wt_registry.specs.Indices.{locate, closed_tree}
 use Rattle.wt_registry.specs.Holds.{Collection}
-use Rattle.wt_registry.specs.Registration.{register, register_groups}
+use Rattle.wt_registry.specs.Registration.{register_one, register_groups}
 use Rattle.wt_registry.specs.Removal.{drop_hold}
-use Rattle.wt_registry.specs.Sound.{OneIndexPerTree}
+use Rattle.wt_registry.specs.Sound.{OneIndexPerTree, IsSound}
 use Rattle.wt_model.specs.Trees.{trees}
 use Rattle.wt_model.specs.Trampolines.{trampoline_index}
 use Rattle.wt_model.specs.Subtyping.{is_subtype_index}
-use Rattle.wt_session.specs.declared.command.NamedType.{NamedType}
-use Rattle.wt_session.specs.declared.command.Command.{Command}
-use Rattle.wt_session.specs.declared.command.Command.TheVariants as command
+use Rattle.wt_commands.specs.declared.command.NamedType.{NamedType}
+use Rattle.wt_commands.specs.declared.host_type.HostSub.{HostSub}
+use Rattle.wt_commands.specs.declared.host_type.HostVal.{HostVal}
+use Rattle.wt_commands.specs.declared.command.Command.{Command}
+use Rattle.wt_commands.specs.declared.command.Command.TheVariants as command
 use Rattle.wt_session.specs.declared.counts.ObjectCounts.{ObjectCounts}
 use Rattle.wt_session.specs.declared.handle.Handle.{Handle}
 use Rattle.wt_session.specs.declared.reply.Refusal.{Refusal}
 use Rattle.wt_session.specs.declared.reply.Refusal.TheVariants as refusal
 use Rattle.wt_session.specs.declared.reply.Reply.{Reply}
 use Rattle.wt_session.specs.declared.reply.Reply.TheVariants as reply
-use Rattle.wt_session.specs.World.{World, party_of, row_of, type_at, debt_at, module_at, index_named, HasExactlyReached, HoldsNamedTypes}
-use Rattle.wt_session.specs.Run.{PartyOutcome, type_made, held_again, clone_made, root_made, hold_ended, type_dropped, debt_swept, module_made, module_released, trampoline_told, subtype_told, full_of_parties, party_outcome, counts_after, done_by, sub_type_of, world_after}
+use Rattle.wt_types.specs.CoreTexts.{text_at}
+use Rattle.wt_session.specs.World.{World, row_of, type_at, debt_at, module_at, index_named, HasExactlyReached, HoldsNamedTypes}
+use Rattle.wt_commands.specs.Commands.{party_of}
+use Rattle.wt_session.specs.HostTypes.{type_named, names_in_val, missing_name, described}
+use Rattle.wt_session.specs.Run.{PartyOutcome, type_made, type_described, held_again, clone_made, root_made, hold_ended, type_dropped, debt_swept, module_made, module_released, trampoline_told, subtype_told, missing_in_vals, matches_told, text_told, full_of_parties, party_outcome, counts_after, done_by, world_after}
+use Rattle.wt_session.proofs.HostTypes.{val-known}
+use Rattle.wt_session.proofs.MissingNames.{none-missing}
 use Rattle.wt_session.proofs.BuildChecks.{not_below, step-checked}
-use Rattle.wt_session.specs.Answered.{check_of, trees_asked, index_of, is_refusal, TellsCheck, NamesTrees, TellsTest, IsAnswered, AreAnswered}
+use Rattle.wt_session.specs.Answered.{own_row, check_of, trees_asked, index_of, is_refusal, TellsCheck, NamesTrees, TellsTest, TellsMatch, TellsText, IsAnswered, AreAnswered}
 
 -- ---- a refusal tells no trees
 
@@ -49,6 +56,10 @@ accepted refuses = absurd (false≢true refuses)
 type_made-unchanged : (registry : Registry) (row : List Handle) (made : Result (Hold × Registry) BuildRefusal) → IsUnchanged registry row (type_made registry row made)
 type_made-unchanged registry row (Ok made) = accepted
 type_made-unchanged registry row (Err cause) = λ refuses. (refl, refl)
+
+type_described-unchanged : (registry : Registry) (row : List Handle) (party : ℕ) (sub : HostSub) (name : Option NamedType) → IsUnchanged registry row (type_described registry row party sub name)
+type_described-unchanged registry row party sub (Some name) = λ refuses. (refl, refl)
+type_described-unchanged registry row party sub None = type_made-unchanged registry row (register_one registry party (described registry.made row sub))
 
 held_again-unchanged : (registry : Registry) (row : List Handle) (hold : Hold) (after : Result Registry Full) → IsUnchanged registry row (held_again registry row hold after)
 held_again-unchanged registry row hold (Ok after) = accepted
@@ -92,8 +103,16 @@ subtype_told-unchanged registry row party sub sup None upper = λ refuses. (refl
 subtype_told-unchanged registry row party sub sup (Some i) None = λ refuses. (refl, refl)
 subtype_told-unchanged registry row party sub sup (Some i) (Some j) = accepted
 
+matches_told-unchanged : (registry : Registry) (row : List Handle) (party : ℕ) (a b : HostVal) (name : Option NamedType) → IsUnchanged registry row (matches_told registry row party a b name)
+matches_told-unchanged registry row party a b (Some name) = λ refuses. (refl, refl)
+matches_told-unchanged registry row party a b None = accepted
+
+text_told-unchanged : (registry : Registry) (row : List Handle) (party : ℕ) (name : NamedType) (ty : Option (List ℕ)) → IsUnchanged registry row (text_told registry row party name ty)
+text_told-unchanged registry row party name (Some ty) = accepted
+text_told-unchanged registry row party name None = λ refuses. (refl, refl)
+
 outcome-unchanged : (registry : Registry) (row : List Handle) (command : Command) → IsUnchanged registry row (party_outcome registry row command)
-outcome-unchanged registry row (command.HostType by sub) = type_made-unchanged registry row (register registry by (sub_type_of sub))
+outcome-unchanged registry row (command.HostType by sub) = type_described-unchanged registry row by sub (missing_name registry.made row sub)
 outcome-unchanged registry row (command.Module by types) = module_made-unchanged registry row (register_groups registry by types.groups)
 outcome-unchanged registry row (command.Clone by place) = clone_made-unchanged registry row by place (type_at row place)
 outcome-unchanged registry row (command.Root by index) = root_made-unchanged registry row (root registry by (index_of index))
@@ -102,6 +121,8 @@ outcome-unchanged registry row (command.Sweep by place) = debt_swept-unchanged r
 outcome-unchanged registry row (command.Release by place) = module_released-unchanged registry row by place (module_at row place)
 outcome-unchanged registry row (command.Trampoline by ty) = trampoline_told-unchanged registry row by ty (option_and_then (trampoline_index registry.made) (index_named row ty))
 outcome-unchanged registry row (command.Subtype by sub sup) = subtype_told-unchanged registry row by sub sup (index_named row sub) (index_named row sup)
+outcome-unchanged registry row (command.Matches by a b) = matches_told-unchanged registry row by a b (missing_in_vals registry row a b)
+outcome-unchanged registry row (command.Show by ty) = text_told-unchanged registry row by ty (option_and_then (text_at registry.made) (index_named row ty))
 outcome-unchanged registry row (command.Live by) = accepted
 
 counts-unchanged : (told : Reply) (counts : ObjectCounts) → is_refusal told ≡ true → counts_after told counts ≡ counts
@@ -168,6 +189,45 @@ outcome-tests world (command.Subtype by sub sup) tells holds =
     told-tests world by sub sup (index_named row sub) (index_named row sup) tells holds refl refl
 outcome-tests world other tells holds = tt
 
+-- ---- an answer to a match tells whether the first value type that is named matches the second
+
+refusal-matches : (made : List RegisteredGroup) (row : List Handle) (command : Command) (why : Refusal) → TellsMatch made row command (reply.Refused why)
+refusal-matches made row (command.Matches by a b) why = tt
+refusal-matches made row other why = tt
+
+told-matches : (registry : Registry) (row : List Handle) (by : ℕ) (a b : HostVal) (name : Option NamedType) → IsSound registry → missing_in_vals registry row a b ≡ name
+    → TellsMatch registry.made row (command.Matches by a b) (matches_told registry row by a b name).reply
+told-matches registry row by a b (Some name) sound is = tt
+told-matches registry row by a b None sound is =
+    let none = none-missing (type_named registry.made row) (names_in_val a) (names_in_val b) is in
+    record {
+      named_first = none.0;
+      named_second = none.1;
+      known_first = val-known registry row sound a none.0;
+      known_second = val-known registry row sound b none.1;
+      fits = refl;
+    }
+
+outcome-matches : (registry : Registry) (row : List Handle) (command : Command) → IsSound registry → TellsMatch registry.made row command (party_outcome registry row command).reply
+outcome-matches registry row (command.Matches by a b) sound = told-matches registry row by a b (missing_in_vals registry row a b) sound refl
+outcome-matches registry row other sound = tt
+
+-- ---- what is shown is the text of the type that is named
+
+refusal-texts : (made : List RegisteredGroup) (row : List Handle) (command : Command) (why : Refusal) → TellsText made row command (reply.Refused why)
+refusal-texts made row (command.Show by name) why = tt
+refusal-texts made row other why = tt
+
+told-texts : (registry : Registry) (row : List Handle) (by : ℕ) (name : NamedType) (index : Option VMSharedTypeIndex) (text : Option (List ℕ))
+    → index_named row name ≡ index → option_and_then (text_at registry.made) index ≡ text → TellsText registry.made row (command.Show by name) (text_told registry row by name text).reply
+told-texts registry row by name index None named found = tt
+told-texts registry row by name None (Some text) named found = absurd (cc)
+told-texts registry row by name (Some i) (Some text) named found = record { index = i; named = named; text = found }
+
+outcome-texts : (registry : Registry) (row : List Handle) (command : Command) → TellsText registry.made row command (party_outcome registry row command).reply
+outcome-texts registry row (command.Show by name) = told-texts registry row by name (index_named row name) (option_and_then (text_at registry.made) (index_named row name)) refl refl
+outcome-texts registry row other = tt
+
 -- ---- one command is answered
 
 pub refused-answered : (world : World) (command : Command) (party bound : ℕ) → party ≡ party_of command → bound ≡ world.registry.engine.limits.parties → bound ≤ party → OneIndexPerTree world.registry.made → HasExactlyReached world
@@ -177,29 +237,37 @@ refused-answered world command party bound by is past one reached =
     let full : full_of_parties world (party_of command) ≡ record { limit = Parties; bound = bound; wanted = party + 1 } = λ i. record { limit = Parties; bound = (sym is) i; wanted = (sym by) i + 1 } in
     subst (λ (f : Full). IsAnswered world command (reply.Refused (refusal.Full f)) world) full (record {
       accepted = λ asked has. step-checked world command asked false (not_below (party_of command) world.registry.engine.limits.parties (omega (arith, by, is, past))) has;
-      named = refusal-names world.registry.made (reply.Refused (refusal.Full told)) (trees_asked world.registry command) refl;
-      subtypes = refusal-tests world.registry.made (row_of (party_of command) world.handles) command (refusal.Full told);
+      named = refusal-names world.registry.made (reply.Refused (refusal.Full told)) (trees_asked world.registry (own_row world command) command) refl;
+      subtypes = refusal-tests world.registry.made (own_row world command) command (refusal.Full told);
+      matches = refusal-matches world.registry.made (own_row world command) command (refusal.Full told);
+      texts = refusal-texts world.registry.made (own_row world command) command (refusal.Full told);
       unchanged = λ again. refl;
       one_index = one;
       reached = reached;
     })
 
 pub done-answered : (before after : World) (command : Command) (result : Result Reply OutOfMemory) → nat_lt (party_of command) before.registry.engine.limits.parties ≡ true
-    → IfOk result (λ told. NamesTrees after.registry.made told (trees_asked before.registry command))
-    → IfOk result (λ told. done_by before command ≡ (told, after)) → TestTells before.registry.made → HoldsNamedTypes before → OneIndexPerTree after.registry.made → HasExactlyReached after → IfOk result (λ told. IsAnswered before command told after)
-done-answered before after command (Ok told) below named done tells holds one reached = record {
+    → IfOk result (λ told. NamesTrees after.registry.made told (trees_asked before.registry (own_row before command) command))
+    → IfOk result (λ told. done_by before command ≡ (told, after)) → IsSound before.registry → TestTells before.registry.made → HoldsNamedTypes before → OneIndexPerTree after.registry.made → HasExactlyReached after → IfOk result (λ told. IsAnswered before command told after)
+done-answered before after command (Ok told) below named done sound tells holds one reached = record {
   accepted = λ asked is. subst (λ (p : Reply × World). TellsCheck p.0 (check_of before asked)) done (step-checked before command asked true below is);
   named = named;
   subtypes =
       let row = row_of (party_of command) before.handles in
       subst (λ (p : Reply × World). TellsTest before.registry.made row command p.0) done (outcome-tests before command tells holds);
+  matches =
+      let row = own_row before command in
+      subst (λ (p : Reply × World). TellsMatch before.registry.made row command p.0) done (outcome-matches before.registry row command sound);
+  texts =
+      let row = own_row before command in
+      subst (λ (p : Reply × World). TellsText before.registry.made row command p.0) done (outcome-texts before.registry row command);
   unchanged = λ refuses.
       sym (ap (λ (p : Reply × World). p.1) done)
       ∙ done-unchanged before command (ap (λ (p : Reply × World). is_refusal p.0) done ∙ refuses);
   one_index = one;
   reached = reached;
 }
-done-answered before after command (Err none) below named done tells holds one reached = tt
+done-answered before after command (Err none) below named done sound tells holds one reached = tt
 
 -- ---- the indices of a module
 
@@ -211,8 +279,8 @@ pub module-names : (made : List RegisteredGroup) (place : ℕ) (indices : List V
     → NamesTrees made (reply.Module place (map (λ i. i.0) indices)) (Some trees)
 module-names made place indices trees named = λ accepts. (indices, ap (λ (told : List VMSharedTypeIndex). Some told) (again indices), named)
 
-pub type-names : (made : List RegisteredGroup) (place : ℕ) (index : VMSharedTypeIndex) (tree : ClosedTree) → closed_tree made index ∷ [] ≡ Some tree ∷ [] → NamesTrees made (reply.TypeMade place index.0) (Some (tree ∷ []))
-type-names made place index tree named = λ accepts. (index ∷ [], refl, named)
+pub type-names : (made : List RegisteredGroup) (place : ℕ) (index : VMSharedTypeIndex) (trees : List ClosedTree) → closed_tree made index ∷ [] ≡ map Some trees → NamesTrees made (reply.TypeMade place index.0) (Some trees)
+type-names made place index trees named = λ accepts. (index ∷ [], refl, named)
 
 -- ---- each command of a run is answered
 

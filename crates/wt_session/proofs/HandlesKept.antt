@@ -17,7 +17,8 @@ use Rattle.wt_session.specs.declared.handle.Handle.TheVariants as handle
 use Rattle.wt_session.specs.World.{numbers_held, held_in}
 use Rattle.wt_session.specs.Session.{AreLocated, IsTypeHandle, IsModuleHandle, IsHandleOf, AreHandles, Keeps}
 use Rattle.wt_env.proofs.lists.Members.{among_either}
-use Rattle.wt_session.proofs.Times.{among_one, among-times, times-pushed, times-ended, held-among, handle-times, among_set, got-among}
+use Rattle.wt_commands.proofs.Members.{among_one}
+use Rattle.wt_session.proofs.Times.{among-times, times-pushed, times-ended, held-among, handle-times, among_set, got-among}
 
 -- ---- a handle is a hold
 

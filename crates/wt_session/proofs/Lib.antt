@@ -4,6 +4,7 @@ pub mod Counted
 pub mod HandlesKept
 pub mod HostTypes
 pub mod MappedTypes
+pub mod MissingNames
 pub mod ModuleReplies
 pub mod NamedTypes
 pub mod OneCommand

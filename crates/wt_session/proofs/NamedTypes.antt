@@ -7,8 +7,8 @@ use Rattle.wt_env.proofs.lists.Members.{some_same, get_among}
 use Rattle.wt_registry.specs.Registered.{Registry}
 use Rattle.wt_registry.specs.Indices.{locate, number_of}
 use Rattle.wt_registry.specs.Holds.{Hold, Collection}
-use Rattle.wt_session.specs.declared.command.NamedType.{NamedType}
-use Rattle.wt_session.specs.declared.command.NamedType.TheVariants as named
+use Rattle.wt_commands.specs.declared.command.NamedType.{NamedType}
+use Rattle.wt_commands.specs.declared.command.NamedType.TheVariants as named
 use Rattle.wt_session.specs.declared.counts.ObjectCounts.{ObjectCounts}
 use Rattle.wt_session.specs.declared.handle.Handle.{Handle}
 use Rattle.wt_session.specs.declared.handle.Handle.TheVariants as handle

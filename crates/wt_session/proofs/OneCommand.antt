@@ -1,31 +1,30 @@
 -- One command of a party, from its own handles to the session.
 use Rattle.std.proofs.Common.{◌≡◌, ℕ, ◌<◌, ◌≤◌, List, [], length, get_or, slice_set, Result, Ok, Err, OnErr, sym, ap, subst, ◌∙◌, arith}
 use Rattle.wt_registry.specs.Registered.{Registry}
-use Rattle.wt_session.specs.declared.command.Command.{Command}
+use Rattle.wt_commands.specs.declared.command.Command.{Command}
 use Rattle.wt_session.specs.declared.counts.ObjectCounts.{ObjectCounts}
 use Rattle.wt_session.specs.declared.handle.Handle.{Handle}
-use Rattle.wt_session.specs.declared.reply.Refusal.{Refusal}
 use Rattle.wt_session.specs.declared.reply.Reply.{Reply}
-use Rattle.wt_session.specs.declared.reply.Reply.TheVariants as reply
 use Rattle.wt_session.specs.declared.party_handles.PartyHandles.{PartyHandles}
-use Rattle.wt_session.specs.World.{party_of, row_of}
-use Rattle.wt_session.specs.Run.{PartyOutcome, refused, counted, party_outcome, counts_after, with_outcome, done_by}
+use Rattle.wt_session.specs.World.{row_of}
+use Rattle.wt_commands.specs.Commands.{party_of}
+use Rattle.wt_session.specs.Run.{PartyOutcome, counted, party_outcome, counts_after, with_outcome, done_by}
 use Rattle.wt_session.specs.Session.{rows_of, padded, world_of, AreHandles, IsKept, Keeps}
 use Rattle.wt_session.proofs.Padding.{kept-padded, read_row, set_row, length-rows, own-row, kept-set, world-row, outcome-world, same-world, row_of-padded, none-past}
 use Rattle.wt_session.proofs.Places.{set-own}
 
 -- ---- a party without handles
 
-pub unheld-done : (registry : Registry) (counts : ObjectCounts) (rows : List (List Handle)) (party : ℕ) (command : Command) (why : Refusal) → party ≡ party_of command
-    → ((registry : Registry) → party_outcome registry [] command ≡ refused registry [] why) → party < registry.engine.limits.parties → length rows ≤ party → IsKept registry rows
-    → done_by (world_of registry counts rows) command ≡ (reply.Refused why, world_of registry counts rows)
-unheld-done registry counts rows party command why by told below past kept =
+pub unheld-done : (registry : Registry) (counts : ObjectCounts) (rows : List (List Handle)) (party : ℕ) (command : Command) (told : Reply) → party ≡ party_of command
+    → party_outcome registry [] command ≡ record { reply = told; registry = registry; row = [] } → party < registry.engine.limits.parties → length rows ≤ party → IsKept registry rows
+    → done_by (world_of registry counts rows) command ≡ (told, world_of registry (counts_after told counts) rows)
+unheld-done registry counts rows party command told by outcome below past kept =
     let none : row_of party (padded registry.engine.limits.parties rows) ≡ [] = row_of-padded registry.engine.limits.parties party rows ∙ none-past rows party past in
     ap (λ (p : ℕ). with_outcome (world_of registry counts rows) p (counted counts (party_outcome registry (row_of p (padded registry.engine.limits.parties rows)) command))) (sym by)
     ∙ ap (λ (row : List Handle). with_outcome (world_of registry counts rows) party (counted counts (party_outcome registry row command))) none
-    ∙ ap (λ (own : PartyOutcome). with_outcome (world_of registry counts rows) party (counted counts own)) (told registry)
-    ∙ ap (λ (row : List Handle). with_outcome (world_of registry counts rows) party (counted counts (refused registry row why))) (sym none)
-    ∙ same-world registry counts rows party why below kept.parties
+    ∙ ap (λ (own : PartyOutcome). with_outcome (world_of registry counts rows) party (counted counts own)) outcome
+    ∙ ap (λ (row : List Handle). with_outcome (world_of registry counts rows) party (counted counts (record { reply = told; registry = registry; row = row }))) (sym none)
+    ∙ same-world registry counts rows party told below kept.parties
 
 -- ---- rows up to the party
 
@@ -47,6 +46,18 @@ world-grown registry counts rows grown party below kept same =
     ap (λ (handles : List (List Handle)). record { registry = registry; handles = handles; counts = counts }) (sym (same parties below fits))
 
 -- ---- the row at its place
+
+-- it is the one that the party had before there were rows up to it
+pub grown-row : (registry : Registry) (rows grown : List PartyHandles) (party : ℕ) (row : PartyHandles) → party < registry.engine.limits.parties → IsKept registry (rows_of rows)
+    → ((parties : ℕ) → party < parties → length rows ≤ parties → padded parties (rows_of grown) ≡ padded parties (rows_of rows))
+    → party < length grown → row ≡ get_or grown party row → row.handles.items ≡ row_of party (rows_of rows)
+grown-row registry rows grown party row below kept same within is =
+    let parties = registry.engine.limits.parties in
+    let fits : length rows ≤ parties = omega (arith, length-rows rows, kept.parties) in
+    sym (own-row (rows_of grown) party row.handles.items (read_row grown party row within is))
+    ∙ sym (row_of-padded parties party (rows_of grown))
+    ∙ ap (row_of party) (same parties below fits)
+    ∙ row_of-padded parties party (rows_of rows)
 
 pub own-handles : (registry : Registry) (rows : List PartyHandles) (party : ℕ) (row : PartyHandles) → IsKept registry (rows_of rows) → party < length rows → row ≡ get_or rows party row → AreHandles registry party row.handles.items
 own-handles registry rows party row kept within is =

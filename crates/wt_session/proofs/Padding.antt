@@ -6,11 +6,9 @@ use Rattle.wt_registry.specs.Registered.{Registry}
 use Rattle.wt_session.specs.declared.counts.ObjectCounts.{ObjectCounts}
 use Rattle.wt_session.specs.declared.handle.Handle.{Handle}
 use Rattle.wt_session.specs.declared.party_handles.PartyHandles.{PartyHandles}
-use Rattle.wt_session.specs.declared.reply.Refusal.{Refusal}
 use Rattle.wt_session.specs.declared.reply.Reply.{Reply}
-use Rattle.wt_session.specs.declared.reply.Reply.TheVariants as reply
 use Rattle.wt_session.specs.World.{row_of}
-use Rattle.wt_session.specs.Run.{refused, counts_after, counted, with_outcome}
+use Rattle.wt_session.specs.Run.{counts_after, counted, with_outcome}
 use Rattle.wt_session.specs.Session.{rows_of, padded, world_of, AreHandles, IsKept, Keeps}
 use Rattle.wt_session.proofs.HandlesKept.{held-own, still-handle}
 
@@ -151,13 +149,14 @@ outcome-world old new counts rows party row row' told is engine = λ i. (
   },
 )
 
--- a refused command of a party without handles changes nothing
-pub same-world : (registry : Registry) (counts : ObjectCounts) (rows : List (List Handle)) (party : ℕ) (why : Refusal) → party < registry.engine.limits.parties → length rows ≤ registry.engine.limits.parties
-    → with_outcome (world_of registry counts rows) party (counted counts (refused registry (row_of party (padded registry.engine.limits.parties rows)) why)) ≡ (reply.Refused why, world_of registry counts rows)
-same-world registry counts rows party why below within =
+-- a command of a party without handles that leaves the registry changes nothing but what was made so far
+pub same-world : (registry : Registry) (counts : ObjectCounts) (rows : List (List Handle)) (party : ℕ) (told : Reply) → party < registry.engine.limits.parties → length rows ≤ registry.engine.limits.parties
+    → with_outcome (world_of registry counts rows) party (counted counts (record { reply = told; registry = registry; row = row_of party (padded registry.engine.limits.parties rows) }))
+    ≡ (told, world_of registry (counts_after told counts) rows)
+same-world registry counts rows party told below within =
     let parties = registry.engine.limits.parties in
     let long : party < length (padded parties rows) = omega (arith, length-append rows (replicate (parties - length rows) []), length-none (parties - length rows), below, within) in
-    λ i. (reply.Refused why, record { registry = registry; handles = set-own (padded parties rows) party long i; counts = counts })
+    λ i. (told, record { registry = registry; handles = set-own (padded parties rows) party long i; counts = counts_after told counts })
   where
     no_handles : List Handle
     no_handles = []

@@ -1,25 +1,12 @@
 -- How often a number stands among those that handles hold.
-use Rattle.std.proofs.Common.{◌≡◌, ℕ, zero, suc, ◌+◌, ◌<◌, ◌≤◌, ◌==◌, ◌⊎◌, inl, inr, Bool, true, false, cond, List, [], ◌∷◌, ◌++◌, length, get_or, slice_get, slice_set, Some, refl, sym, ap, ◌∙◌, subst, arith}
+use Rattle.std.proofs.Common.{◌≡◌, ℕ, zero, suc, ◌+◌, ◌≤◌, ◌==◌, ◌⊎◌, inl, inr, Bool, true, false, cond, List, [], ◌∷◌, ◌++◌, slice_get, slice_set, Some, refl, sym, ap, ◌∙◌, subst, arith}
 use Rattle.std.proofs.lemmas.Grind.{flat_map-append}
 use Rattle.std.proofs.lemmas.List.{append-nil}
 use Rattle.wt_env.specs.Among.{Among}
 use Rattle.wt_env.proofs.lists.Members.{among_before, among_behind}
 use Rattle.wt_registry.specs.Holds.{times}
-use Rattle.wt_session.specs.declared.command.Command.{Command}
 use Rattle.wt_session.specs.declared.handle.Handle.{Handle}
 use Rattle.wt_session.specs.World.{numbers_held, held_in}
-
--- ---- lists
-
-pub among_one : {A : Type 0} (x y : A) → Among x (y ∷ []) → x ≡ y
-among_one x y (inl same) = same
-among_one x y (inr none) = absurd none
-
--- a command that is read is one of the list
-pub among_read : (commands : List Command) (n : ℕ) (command : Command) → n < length commands → command ≡ get_or commands n command → Among command commands
-among_read [] n command below is = absurd (omega arith)
-among_read (first ∷ commands) zero command below is = inl is
-among_read (first ∷ commands) (suc n) command below is = inr (among_read commands n command (omega arith) is)
 
 -- ---- how often
 

@@ -1,6 +1,6 @@
 -- One more command, after those that were done.
 use Rattle.std.proofs.Common.{◌≡◌, List, [], ◌∷◌, ◌++◌, refl, ap}
-use Rattle.wt_session.specs.declared.command.Command.{Command}
+use Rattle.wt_commands.specs.declared.command.Command.{Command}
 use Rattle.wt_session.specs.World.{World}
 use Rattle.wt_session.specs.Run.{step, replies_of, world_after}
 

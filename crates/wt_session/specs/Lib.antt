@@ -1,5 +1,5 @@
 pub mod Answered
-pub mod BuildChecks
+pub mod HostTypes
 pub mod Run
 pub mod Session
 pub mod World

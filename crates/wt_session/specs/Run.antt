@@ -1,9 +1,5 @@
 -- What a session answers to commands, and what they change.
-use Rattle.std.specs.Prelude.{ℕ, ◌+◌, nat_lt, if◌then◌else◌, List, [], ◌∷◌, ◌++◌, length, map, slice_set, true, Option, Some, None, option_and_then, Result, Ok, Err}
-use Rattle.wt_env.specs.declared.types.WasmValType.{WasmValType}
-use Rattle.wt_env.specs.declared.types.WasmValType.TheVariants as val
-use Rattle.wt_env.specs.declared.types.WasmCompositeInnerType.TheVariants as shape
-use Rattle.wt_env.specs.declared.types.WasmSubType.{WasmSubType}
+use Rattle.std.specs.Prelude.{ℕ, ◌+◌, nat_lt, if◌then◌else◌, List, [], ◌∷◌, ◌++◌, length, map, slice_set, Bool, Option, Some, None, option_and_then, Result, Ok, Err}
 use Rattle.wt_env.specs.declared.types.VMSharedTypeIndex.{VMSharedTypeIndex}
 use Rattle.wt_env.specs.declared.limits.Limit.TheVariants.{Parties}
 use Rattle.wt_model.specs.declared.swept.Swept.{Swept}
@@ -13,19 +9,19 @@ use Rattle.wt_model.specs.declared.refusal.BuildRefusal.TheVariants as why
 use Rattle.wt_registry.specs.Registered.{Registry}
 use Rattle.wt_registry.specs.Holds.{Hold, root as rooted, hold as held}
 use Rattle.wt_registry.specs.Holds.{Collection}
-use Rattle.wt_registry.specs.Registration.{register, register_groups}
+use Rattle.wt_registry.specs.Registration.{register_one, register_groups}
 use Rattle.wt_registry.specs.Removal.{drop_hold as dropped, sweep_debt as swept, release_holds}
 use Rattle.wt_registry.specs.Live.{live_of}
 use Rattle.wt_model.specs.Trampolines.{trampoline_index}
 use Rattle.wt_model.specs.Subtyping.{is_subtype_index}
-use Rattle.wt_session.specs.declared.command.HostVal.{HostVal}
-use Rattle.wt_session.specs.declared.command.HostVal.TheVariants as host
-use Rattle.wt_session.specs.declared.command.HostSub.{HostSub}
-use Rattle.wt_session.specs.declared.command.HostSub.TheVariants as host_sub
-use Rattle.wt_session.specs.declared.command.NamedType.{NamedType}
-use Rattle.wt_session.specs.declared.command.NamedType.TheVariants as named
-use Rattle.wt_session.specs.declared.command.Command.{Command}
-use Rattle.wt_session.specs.declared.command.Command.TheVariants as command
+use Rattle.wt_tree.specs.Fit.{named_by, val_fits}
+use Rattle.wt_model.specs.Indices.{closed_tree}
+use Rattle.wt_commands.specs.declared.host_type.HostVal.{HostVal}
+use Rattle.wt_commands.specs.declared.host_type.HostSub.{HostSub}
+use Rattle.wt_commands.specs.declared.command.NamedType.{NamedType}
+use Rattle.wt_commands.specs.declared.command.NamedType.TheVariants as named
+use Rattle.wt_commands.specs.declared.command.Command.{Command}
+use Rattle.wt_commands.specs.declared.command.Command.TheVariants as command
 use Rattle.wt_session.specs.declared.counts.ObjectCounts.{ObjectCounts}
 use Rattle.wt_session.specs.declared.handle.Handle.{Handle}
 use Rattle.wt_session.specs.declared.handle.Handle.TheVariants as handle
@@ -34,23 +30,10 @@ use Rattle.wt_session.specs.declared.reply.Refusal.{Refusal}
 use Rattle.wt_session.specs.declared.reply.Refusal.TheVariants as refusal
 use Rattle.wt_session.specs.declared.reply.Reply.{Reply}
 use Rattle.wt_session.specs.declared.reply.Reply.TheVariants as reply
-use Rattle.wt_session.specs.World.{World, party_of, row_of, type_at, debt_at, module_at, index_named}
-
--- a value type that the host names
-abbrev pub val_type_of : HostVal → WasmValType
-val_type_of host.I32 = val.I32
-val_type_of host.I64 = val.I64
-val_type_of host.F32 = val.F32
-val_type_of host.F64 = val.F64
-val_type_of host.V128 = val.V128
-
--- a type that the host describes
-abbrev pub sub_type_of : HostSub → WasmSubType
-sub_type_of (host_sub.Func params results) = record {
-  is_final = true;
-  supertype = None;
-  composite_type = shape.Func (record { params = map val_type_of params; results = map val_type_of results });
-}
+use Rattle.wt_session.specs.World.{World, row_of, type_at, debt_at, module_at, index_named}
+use Rattle.wt_session.specs.HostTypes.{type_named, val_of, names_in_val, first_missing, missing_name, described}
+use Rattle.wt_types.specs.CoreTexts.{text_at}
+use Rattle.wt_commands.specs.Commands.{party_of}
 
 -- ---- one command, on its party's handles
 
@@ -79,10 +62,21 @@ refusal_of why.NoGc = refusal.NoGc
 refusal_of (why.Full full) = refusal.Full full
 refusal_of why.OutOfMemory = refusal.NoGc
 
+-- how a command is refused that names no type, or none that fits
+abbrev pub no_such_type : ℕ → NamedType → Refusal
+no_such_type party (named.Handle place) = refusal.NoSuchHandle party kind.Type place
+no_such_type party (named.OfModule place ty) = refusal.NoSuchType party place ty
+
 -- a registration
 abbrev pub type_made : Registry → List Handle → Result (Hold × Registry) BuildRefusal → PartyOutcome
 type_made registry row (Ok made) = with_type row made.0 made.1
 type_made registry row (Err cause) = refused registry row (refusal_of cause)
+
+-- the registration of what a host describes, over the types that its party names; the first name that is missing is
+-- refused before
+abbrev pub type_described : Registry → List Handle → ℕ → HostSub → Option NamedType → PartyOutcome
+type_described registry row party sub (Some name) = refused registry row (no_such_type party name)
+type_described registry row party sub None = type_made registry row (register_one registry party (described registry.made row sub))
 
 abbrev pub held_again : Registry → List Handle → Hold → Result Registry Full → PartyOutcome
 held_again registry row hold (Ok after) = with_type row hold after
@@ -134,11 +128,6 @@ module_released registry row party place (Some types) = record {
 }
 module_released registry row party place None = refused registry row (refusal.NoSuchHandle party kind.Module place)
 
--- how a command is refused that names no type, or none that fits
-abbrev pub no_such_type : ℕ → NamedType → Refusal
-no_such_type party (named.Handle place) = refusal.NoSuchHandle party kind.Type place
-no_such_type party (named.OfModule place ty) = refusal.NoSuchType party place ty
-
 -- the index of the trampoline of the type that is named, if that is a function
 abbrev pub trampoline_told : Registry → List Handle → ℕ → NamedType → Option VMSharedTypeIndex → PartyOutcome
 trampoline_told registry row party ty (Some index) = record { reply = reply.Index index.0; registry = registry; row = row }
@@ -151,9 +140,28 @@ subtype_told registry row party sub sup None upper = refused registry row (no_su
 subtype_told registry row party sub sup (Some i) None = refused registry row (no_such_type party sup)
 subtype_told registry row party sub sup (Some i) (Some j) = record { reply = reply.Answer (is_subtype_index registry.made i j); registry = registry; row = row }
 
+-- Whether a value of the first type may stand where the second is wanted, by the closed trees of what they name.
+abbrev pub matches_described : Registry → List Handle → HostVal → HostVal → Bool
+matches_described registry row a b =
+    val_fits (named_by (closed_tree registry.made)) (named_by (closed_tree registry.made)) (val_of (type_named registry.made row) a) (val_of (type_named registry.made row) b)
+
+-- the first name that is missing in one value type, and else in another
+abbrev pub missing_in_vals : Registry → List Handle → HostVal → HostVal → Option NamedType
+missing_in_vals registry row a b = first_missing (type_named registry.made row) (names_in_val a ++ names_in_val b)
+
+-- whether one value type matches another; the first name that is missing is refused
+abbrev pub matches_told : Registry → List Handle → ℕ → HostVal → HostVal → Option NamedType → PartyOutcome
+matches_told registry row party a b (Some name) = refused registry row (no_such_type party name)
+matches_told registry row party a b None = record { reply = reply.Answer (matches_described registry row a b); registry = registry; row = row }
+
+-- the text of the type that is named
+abbrev pub text_told : Registry → List Handle → ℕ → NamedType → Option (List ℕ) → PartyOutcome
+text_told registry row party name (Some text) = record { reply = reply.Show text; registry = registry; row = row }
+text_told registry row party name None = refused registry row (no_such_type party name)
+
 -- The same for a party below the limit that has these handles.
 abbrev pub party_outcome : Registry → List Handle → Command → PartyOutcome
-party_outcome registry row (command.HostType by sub) = type_made registry row (register registry by (sub_type_of sub))
+party_outcome registry row (command.HostType by sub) = type_described registry row by sub (missing_name registry.made row sub)
 party_outcome registry row (command.Module by types) = module_made registry row (register_groups registry by types.groups)
 party_outcome registry row (command.Clone by place) = clone_made registry row by place (type_at row place)
 party_outcome registry row (command.Root by index) = root_made registry row (rooted registry by (record { 0 = index }))
@@ -162,6 +170,8 @@ party_outcome registry row (command.Sweep by place) = debt_swept registry row by
 party_outcome registry row (command.Release by place) = module_released registry row by place (module_at row place)
 party_outcome registry row (command.Trampoline by ty) = trampoline_told registry row by ty (option_and_then (trampoline_index registry.made) (index_named row ty))
 party_outcome registry row (command.Subtype by sub sup) = subtype_told registry row by sub sup (index_named row sub) (index_named row sup)
+party_outcome registry row (command.Matches by a b) = matches_told registry row by a b (missing_in_vals registry row a b)
+party_outcome registry row (command.Show by ty) = text_told registry row by ty (option_and_then (text_at registry.made) (index_named row ty))
 party_outcome registry row (command.Live by) = record { reply = reply.Live (live_of registry.made); registry = registry; row = row }
 
 -- ---- commands in turn

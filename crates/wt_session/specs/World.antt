@@ -7,18 +7,15 @@ use Rattle.wt_registry.specs.Indices.{number_of}
 use Rattle.wt_registry.specs.Holds.{Hold, waiting}
 use Rattle.wt_env.specs.Among.{Among}
 use Rattle.wt_registry.specs.Holds.{Collection}
-use Rattle.wt_registry.specs.Rules.{AreCountable, AreModuleTypes}
 use Rattle.wt_registry.specs.Sound.{IsRising}
 use Rattle.wt_registry.specs.Reach.{Reach}
-use Rattle.wt_session.specs.declared.command.NamedType.{NamedType}
-use Rattle.wt_session.specs.declared.command.NamedType.TheVariants as named
-use Rattle.wt_session.specs.declared.command.Command.{Command}
-use Rattle.wt_session.specs.declared.command.Command.TheVariants as command
+use Rattle.wt_commands.specs.declared.command.NamedType.{NamedType}
+use Rattle.wt_commands.specs.declared.command.NamedType.TheVariants as named
+use Rattle.wt_commands.specs.declared.command.Command.{Command}
+use Rattle.wt_commands.specs.declared.command.Command.TheVariants as command
 use Rattle.wt_session.specs.declared.counts.ObjectCounts.{ObjectCounts}
 use Rattle.wt_session.specs.declared.handle.Handle.{Handle}
 use Rattle.wt_session.specs.declared.handle.Handle.TheVariants as handle
-use Rattle.wt_model.specs.declared.handle_kind.HandleKind.{HandleKind}
-use Rattle.wt_model.specs.declared.handle_kind.HandleKind.TheVariants as kind
 
 -- A session: its registry, the handles of each party below the limit, by their numbers, and how many of each
 -- kind of object were made so far, over all parties.
@@ -31,35 +28,7 @@ pub record World : Type 0 where
 abbrev pub no_counts : ObjectCounts
 no_counts = record { stores = 0; modules = 0; components = 0; component_instances = 0 }
 
--- the party whose command it is
-abbrev pub party_of : Command → ℕ
-party_of (command.HostType by sub) = by
-party_of (command.Module by types) = by
-party_of (command.Clone by place) = by
-party_of (command.Root by index) = by
-party_of (command.Drop by place) = by
-party_of (command.Sweep by place) = by
-party_of (command.Release by place) = by
-party_of (command.Trampoline by ty) = by
-party_of (command.Subtype by sub sup) = by
-party_of (command.Live by) = by
-
--- the handle by which a type is named, with the kind that it has to be of
-abbrev pub handle_naming : NamedType → HandleKind × ℕ
-handle_naming (named.Handle place) = (kind.Type, place)
-handle_naming (named.OfModule place ty) = (kind.Module, place)
-
--- the handles that a command names, in the order of its keys, with the kinds that they have to be of
-abbrev pub named_handles : Command → List (HandleKind × ℕ)
-named_handles (command.Clone by place) = (kind.Type, place) ∷ []
-named_handles (command.Drop by place) = (kind.Type, place) ∷ []
-named_handles (command.Sweep by place) = (kind.Debt, place) ∷ []
-named_handles (command.Release by place) = (kind.Module, place) ∷ []
-named_handles (command.Trampoline by ty) = handle_naming ty ∷ []
-named_handles (command.Subtype by sub sup) = handle_naming sub ∷ handle_naming sup ∷ []
-named_handles other = []
-
--- a drop, a sweep, a release, a trampoline and a subtype test take no memory
+-- a drop, a sweep, a release, a trampoline, a subtype test and a match take no memory
 abbrev pub takes_memory : Command → Bool
 takes_memory (command.HostType by sub) = true
 takes_memory (command.Module by types) = true
@@ -70,6 +39,8 @@ takes_memory (command.Sweep by place) = false
 takes_memory (command.Release by place) = false
 takes_memory (command.Trampoline by ty) = false
 takes_memory (command.Subtype by sub sup) = false
+takes_memory (command.Matches by a b) = false
+takes_memory (command.Show by ty) = true
 takes_memory (command.Live by) = true
 
 -- commands alone that take no memory
@@ -145,19 +116,3 @@ abbrev pub HoldsNamedTypes : World → Type 0
 HoldsNamedTypes world =
     (party : ℕ) (ty : NamedType) (i : VMSharedTypeIndex) → index_named (row_of party world.handles) ty ≡ Some i
     → (number : ℕ) × Among number (held_in (row_of party world.handles)) × (number_of world.registry.made i ≡ Some number)
-
--- what a caller sees to: a module's lists are short, and its references are by module index
-abbrev pub IsCommand : Command → Type 0
-IsCommand (command.HostType by sub) = Unit {0}
-IsCommand (command.Module by types) = AreCountable types.groups × AreModuleTypes types.groups
-IsCommand (command.Clone by place) = Unit {0}
-IsCommand (command.Root by index) = Unit {0}
-IsCommand (command.Drop by place) = Unit {0}
-IsCommand (command.Sweep by place) = Unit {0}
-IsCommand (command.Release by place) = Unit {0}
-IsCommand (command.Trampoline by ty) = Unit {0}
-IsCommand (command.Subtype by sub sup) = Unit {0}
-IsCommand (command.Live by) = Unit {0}
-
-abbrev pub AreCommands : List Command → Type 0
-AreCommands commands = (command : Command) → Among command commands → IsCommand command

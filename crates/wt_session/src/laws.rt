@@ -3,13 +3,14 @@
 ghost use Rattle.std.specs.Prelude.{◌≡◌, ℕ, ◌≤◌, ◌⊎◌, ◌++◌, [], length, take, OnOk, OnErr};
 ghost use Rattle.wt_registry.specs.Holds.{waiting};
 ghost use Rattle.wt_registry.specs.Sound.{OneIndexPerTree};
-ghost use Rattle.wt_session.specs.World.{HasExactlyReached, TakesMemoryAt, AreCommands, holds};
+ghost use Rattle.wt_session.specs.World.{HasExactlyReached, TakesMemoryAt, holds};
+ghost use Rattle.wt_commands.specs.Commands.{AreCommands};
 ghost use Rattle.wt_session.specs.Run.{replies_of, world_after};
 
-use crate::command::Command;
 use crate::reply::Reply;
 use crate::run::run_session;
 use crate::session::Session;
+use wt_commands::command::Command;
 use wt_env::memory::OutOfMemory;
 
 /// Runs one list of commands and then another. That is the run of the two lists joined, with the same

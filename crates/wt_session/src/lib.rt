@@ -2,15 +2,17 @@
 //! command passes them.
 #![tactic(auto)]
 
+pub use wt_commands::{command, host_type};
+
 // A command comes to a session,
-pub mod command;
 pub mod session;
 // which finds the handles of the command's party,
 mod acting;
 pub mod handle;
 pub mod party_handles;
-// and does what is asked of them: on types,
+// and does what is asked of them: on types, which a host describes over those that the handles name,
 mod host;
+mod missing_names;
 mod type_handles;
 // on modules,
 mod module_handles;
@@ -19,7 +21,10 @@ mod named_types;
 // What was made is counted, and a reply is given.
 pub mod counts;
 pub mod reply;
+pub mod type_text;
 // Commands are run in turn.
 pub mod run;
 // What follows from the contracts.
 pub mod laws;
+#[cfg(test)]
+mod tests;

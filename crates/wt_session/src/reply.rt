@@ -1,5 +1,6 @@
 //! What a session answers to a command.
 
+use crate::type_text::TypeText;
 use wt_env::seq::Seq;
 use wt_env::types::{Kind, VMSharedTypeIndex};
 pub use wt_registry::handle_kind::HandleKind;
@@ -74,6 +75,8 @@ pub enum Reply {
     Index(u32),
     /// Whether what was asked is so.
     Answer(bool),
+    /// The text of a type.
+    Show { text: TypeText },
     /// The registered groups, in order of their registration numbers.
     Live(Seq<LiveGroup>),
     /// The command was refused.

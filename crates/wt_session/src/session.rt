@@ -1,12 +1,12 @@
 //! A session: an engine's registry, and what each party holds of it.
 
 use crate::acting::run_command_of_party;
-use crate::command::Command;
 use crate::counts::ObjectCounts;
 use crate::party_handles::PartyHandles;
 use crate::reply::{Refusal, Reply};
 use std::alloc::Global;
 use std::marker::Model;
+use wt_commands::command::Command;
 use wt_env::limits::{Engine, Limit};
 use wt_env::memory::OutOfMemory;
 use wt_env::seq::Seq;
@@ -37,7 +37,8 @@ impl Session {
     ghost use Rattle.std.specs.Prelude.{◌≡◌, false, IfOk, OnErr, IsOk};
     ghost use Rattle.wt_registry.specs.Sound.{OneIndexPerTree};
     ghost use Rattle.wt_registry.specs.Live.{live_of};
-    ghost use Rattle.wt_session.specs.World.{HasExactlyReached, HoldsNamedTypes, takes_memory, IsCommand};
+    ghost use Rattle.wt_session.specs.World.{HasExactlyReached, HoldsNamedTypes, takes_memory};
+    ghost use Rattle.wt_commands.specs.Commands.{IsCommand};
     ghost use Rattle.wt_session.specs.Run.{step};
     ghost use Rattle.wt_session.specs.Answered.{IsAnswered};
     ghost use Rattle.wt_session.specs.Session.{new_world};

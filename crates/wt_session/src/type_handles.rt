@@ -1,20 +1,27 @@
 //! A party's handles on types: how they are made, dropped and swept.
 
-ghost use Rattle.std.specs.Prelude.{◌≡◌, ◌≢◌, ◌<◌, ◌++◌, ◌∷◌, [], length, IfOk, OnErr, Some, slice_get, slice_set, vec_len, vec_capacity};
+ghost use Rattle.std.specs.Prelude.{◌≡◌, ◌≢◌, ◌<◌, ◌⊎◌, ◌++◌, ◌∷◌, [], length, map, IfOk, IfErr, OnErr, Ok, Err, None, Some, slice_get, slice_set, vec_len, vec_capacity};
 ghost use Rattle.std.specs.Option.{option_copied};
 ghost use Rattle.wt_registry.specs.Holds.{root as rooted};
-ghost use Rattle.wt_registry.specs.Registration.{register, host_type, trees_of};
+ghost use Rattle.wt_registry.specs.Holds.{IsHeld};
+ghost use Rattle.wt_registry.specs.Registration.{register_one, trees_of};
+ghost use Rattle.wt_registry.specs.Changes.{HoldChanges};
+ghost use Rattle.wt_registry.specs.Indices.{closed_tree};
+ghost use Rattle.wt_registry.specs.Sound.{IsSound};
 ghost use Rattle.wt_session.specs.World.{type_at, debt_at};
-ghost use Rattle.wt_session.specs.Run.{sub_type_of, refusal_of, type_made, clone_made, root_made, type_dropped, debt_swept};
+ghost use Rattle.wt_session.specs.HostTypes.{described, missing_name};
+ghost use Rattle.wt_session.specs.Run.{type_described, refusal_of, type_made, clone_made, root_made, type_dropped, debt_swept};
 ghost use Rattle.wt_session.specs.Answered.{NamesTrees};
 ghost use Rattle.wt_session.specs.Session.{AreHandles, Keeps};
 
-use crate::command::HostSub;
 use crate::handle::Handle;
-use crate::host::sub_type;
+use crate::host::{sub_type, tag_type, val_types};
+use crate::missing_names::missing_name;
+use crate::named_types::no_such_type;
 use crate::reply::{HandleKind, Refusal, Reply};
 use std::alloc::Global;
 use std::mem;
+use wt_commands::host_type::HostSub;
 use wt_env::memory::OutOfMemory;
 use wt_env::types::VMSharedTypeIndex;
 use wt_registry::refusal::BuildRefusal;
@@ -63,7 +70,49 @@ fn push_type(row: &mut Vec<Handle>, hold: RegisteredType) -> Reply
     reply
 }
 
-/// Registers a type for a party, and gives the party a handle on it.
+/// Registers what a host describes for a party, which names registered types alone, each of the kind that its place needs.
+fn register_described(
+    alloc: Global,
+    registry: &mut TypeRegistry,
+    party: &mut PartyNumber,
+    row: &[Handle],
+    sub: &HostSub,
+) -> Result<RegisteredType, BuildRefusal>
+    requires named { missing_name registry.old.made row.now sub.now ≡ None }
+    requires party { party.old < registry.old.engine.limits.parties }
+    ensures ok { IfOk result (λ hold. register_one registry.old party.old (described registry.old.made row.now sub.now) ≡ Ok (hold, registry.new)) }
+    ensures refused { IfErr result (λ why. (why ≡ BuildRefusal.OutOfMemory) ⊎ (register_one registry.old party.old (described registry.old.made row.now sub.now) ≡ Err why)) }
+    ensures named { IfOk result (λ hold. closed_tree registry.new.made hold.index ∷ [] ≡ map Some (trees_of registry.old.made (described registry.old.made row.now sub.now))) }
+    ensures err { OnErr result (registry.new ≡ registry.old) }
+    ensures party { party.new ≡ party.old }
+    ensures changes { IfOk result (λ hold. HoldChanges registry.old registry.new party.old (hold.number ∷ [])) }
+    ensures owner { IfOk result (λ hold. hold.party ≡ party.old) }
+    ensures held { IfOk result (λ hold. IsHeld registry.new hold) }
+    ensures sound { IsSound registry.new }
+{
+    registry.tell_invariant();
+    match sub {
+        HostSub::Declared {
+            is_final,
+            supertype,
+            shape,
+        } => {
+            let ty = sub_type(alloc, registry, row, *is_final, *supertype, shape)?;
+            RegisteredType::new(registry, party, ty)
+        }
+        HostSub::Exception { fields } => {
+            let fields = val_types(alloc, registry, row, fields.as_slice())?;
+            RegisteredType::new_exn(registry, party, fields.as_slice())
+        }
+        HostSub::Tag(name) => {
+            let ty = tag_type(registry, row, *name)?;
+            RegisteredType::new(registry, party, ty)
+        }
+    }
+}
+
+/// Registers a type for a party, and gives the party a handle on it. The first name that is missing is refused before
+/// anything else.
 pub(crate) fn register_type(
     alloc: Global,
     registry: &mut TypeRegistry,
@@ -73,16 +122,18 @@ pub(crate) fn register_type(
 ) -> Result<Reply, OutOfMemory>
     requires below { party.old < registry.old.engine.limits.parties }
     requires handles { AreHandles registry.old party.old row.old.items }
-    ensures ok { IfOk result (λ reply. type_made registry.old row.old.items (register registry.old party.old (sub_type_of sub.now))
+    ensures ok { IfOk result (λ reply. type_described registry.old row.old.items party.old sub.now (missing_name registry.old.made row.old.items sub.now)
         ≡ record { reply = reply; registry = registry.new; row = row.new.items }) }
-    ensures named { IfOk result (λ reply. NamesTrees registry.new.made reply (Some (trees_of registry.old.made (host_type (sub_type_of sub.now))))) }
+    ensures named { IfOk result (λ reply. NamesTrees registry.new.made reply (Some (trees_of registry.old.made (described registry.old.made row.old.items sub.now)))) }
     ensures err { OnErr result ((registry.new ≡ registry.old) × (row.new.items ≡ row.old.items)) }
     ensures party { party.new ≡ party.old }
     ensures keeps { Keeps registry.old registry.new party.old row.new.items }
 {
     row.reserve(1)?;
-    let ty = sub_type(alloc, sub)?;
-    match RegisteredType::new(registry, party, ty) {
+    if let Some(name) = missing_name(registry, row.as_slice(), sub) {
+        return Ok(Reply::Refused(no_such_type(party.number(), name)));
+    }
+    match register_described(alloc, registry, party, row.as_slice(), sub) {
         Ok(hold) => Ok(push_type(row, hold)),
         Err(why) => refuse(why),
     }

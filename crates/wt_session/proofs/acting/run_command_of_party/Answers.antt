@@ -1,19 +1,22 @@
 -- a command on the party's row is the session's step, and keeps what is kept
-use Rattle.std.proofs.Common.{◌≤◌, ℕ, slice_set, sym, ap, subst, ◌∙◌, arith, length}
+use Rattle.std.proofs.Common.{◌≤◌, ℕ, List, slice_set, sym, ap, subst, ◌∙◌, arith, length}
 use Rattle.wt_session.specs.declared.party_handles.PartyHandles.{PartyHandles}
 use Rattle.wt_session.specs.World.{World}
+use Rattle.wt_session.specs.declared.handle.Handle.{Handle}
 use Rattle.wt_session.specs.Run.{done_by}
+use Rattle.wt_session.specs.Answered.{trees_asked, NamesTrees}
 use Rattle.wt_session.specs.Session.{rows_of, world_of, AreHandles}
-use Rattle.wt_session.proofs.OneCommand.{unheld-done, kept-grown, world-grown, own-handles, kept-written, on-err, world-same, done-written}
+use Rattle.wt_session.proofs.OneCommand.{unheld-done, kept-grown, world-grown, grown-row, own-handles, kept-written, on-err, world-same, done-written}
 use Rattle.wt_session.proofs.Padding.{length-rows}
 use Rattle.wt_session.proofs.acting.run_command_of_party.Goals as goal
 
-pub returns-then-len-party-clause-ok : goal.returns-then-len-party-clause-ok
-returns-then-len-party-clause-ok c =
+pub returns-in-Some-clause-ok : goal.returns-in-Some-clause-ok
+returns-in-Some-clause-ok c =
     let registry = c.args.registry.now in
     let rows = c.args.rows.now.items in
     let past : length (rows_of rows) ≤ c.args.party = omega (arith, length-rows rows, c.len.ensures, c.if-len-party.true) in
-    unheld-done registry c.args.counts.now (rows_of rows) c.args.party c.args.command.now c.in-Some.why c.requires.by c.in-Some.ensures.refused c.requires.below past c.requires.kept
+    unheld-done registry c.args.counts.now (rows_of rows) c.args.party c.args.command.now c.in-Some.reply c.requires.by c.in-Some.ensures.told c.requires.below past c.requires.kept
+    ∙ ap (λ counts. (c.in-Some.reply, world_of registry counts (rows_of rows))) (sym c.add_made.ensures)
 
 pub returns-in_err-add_missing_parties-clause-kept : goal.returns-in_err-add_missing_parties-clause-kept
 returns-in_err-add_missing_parties-clause-kept c =
@@ -46,7 +49,13 @@ returns-clause-ok c =
     let after : PartyHandles = record { handles = c.run_command.new.row } in
     ap (λ (w : World). done_by w command) (world-grown registry c.args.counts.now c.args.rows.now.items c.add_missing_parties.new.rows.items c.args.party c.requires.below c.requires.kept c.add_missing_parties.ensures.same)
     ∙ done-written registry c.run_command.new.registry c.args.counts.now c.add_missing_parties.new.rows.items c.args.party c.index_mut.result.now after command c.in_ok-reply.reply c.in_ok-add_missing_parties.ensures.there c.index_mut.ensures.value c.requires.by c.run_command.ensures.keeps.spares.engine c.in_ok-reply.ensures.ok
-    ∙ ap (λ counts. (c.in_ok-reply.reply, world_of c.run_command.new.registry counts (rows_of (slice_set c.add_missing_parties.new.rows.items c.args.party after)))) (sym c.add_made.ensures)
+    ∙ ap (λ counts. (c.in_ok-reply.reply, world_of c.run_command.new.registry counts (rows_of (slice_set c.add_missing_parties.new.rows.items c.args.party after)))) (sym c.add_made-2.ensures)
+
+pub returns-clause-named : goal.returns-clause-named
+returns-clause-named c =
+    let row = grown-row c.args.registry.now c.args.rows.now.items c.add_missing_parties.new.rows.items c.args.party c.index_mut.result.now c.requires.below c.requires.kept c.add_missing_parties.ensures.same
+    c.in_ok-add_missing_parties.ensures.there c.index_mut.ensures.value in
+    subst (λ (own : List Handle). NamesTrees c.run_command.new.registry.made c.in_ok-reply.reply (trees_asked c.args.registry.now own c.args.command.now)) row c.in_ok-reply.ensures.named
 
 pub returns-clause-kept : goal.returns-clause-kept
 returns-clause-kept c =

@@ -3,7 +3,7 @@ use Rattle.std.proofs.Common.{◌≡◌, ℕ, zero, suc, ◌+◌, ◌⊎◌, Som
 use Rattle.std.proofs.Math.Seq.{take-append-add}
 use Rattle.std.proofs.lemmas.Result.{on_ok_weaker, on_err_weaker}
 use Rattle.std.proofs.lemmas.List.{append_assoc, length-append, take-append-le}
-use Rattle.wt_session.specs.declared.command.Command.{Command}
+use Rattle.wt_commands.specs.declared.command.Command.{Command}
 use Rattle.wt_session.specs.declared.reply.Reply.{Reply}
 use Rattle.wt_session.specs.World.{World, TakesMemoryAt}
 use Rattle.wt_session.specs.Run.{replies_of, world_after}

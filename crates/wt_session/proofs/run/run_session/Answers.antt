@@ -2,14 +2,14 @@
 use Rattle.std.proofs.Common.{◌≡◌, ℕ, ◌+◌, ◌<◌, List, [], ◌∷◌, ◌++◌, length, take, refl, sym, ap, subst, ◌∙◌, append_assoc, arith, inr, Bool, true, false}
 use Rattle.std.proofs.lemmas.Bool.{false≢true}
 use Rattle.std.proofs.lemmas.List.{append-nil, length-append, take_more}
-use Rattle.wt_session.specs.declared.command.Command.{Command}
+use Rattle.wt_commands.specs.declared.command.Command.{Command}
 use Rattle.wt_session.specs.declared.reply.Reply.{Reply}
 use Rattle.wt_session.specs.World.{World, takes_memory}
 use Rattle.wt_session.specs.Run.{step, replies_of, world_after}
 use Rattle.wt_session.specs.Answered.{AreAnswered}
 use Rattle.wt_session.proofs.Answering.{got-read, answered-none, answered-more}
 use Rattle.wt_session.proofs.OneCommand.{on-err}
-use Rattle.wt_session.proofs.Times.{among_read}
+use Rattle.wt_commands.proofs.Members.{among_read}
 use Rattle.wt_session.proofs.Turns.{replies_of-one_more, world_after-one_more}
 use Rattle.wt_session.proofs.run.run_session.Goals as goal
 
@@ -94,6 +94,12 @@ returns-in_err-reply-clause-named c = λ n asks told wants got. (c.loop-command.
 pub returns-in_err-reply-clause-subtypes : goal.returns-in_err-reply-clause-subtypes
 returns-in_err-reply-clause-subtypes c = λ n asks told wants got. (c.loop-command.invariant.answered n asks told wants got).subtypes
 
+pub returns-in_err-reply-clause-matches : goal.returns-in_err-reply-clause-matches
+returns-in_err-reply-clause-matches c = λ n asks told wants got. (c.loop-command.invariant.answered n asks told wants got).matches
+
+pub returns-in_err-reply-clause-texts : goal.returns-in_err-reply-clause-texts
+returns-in_err-reply-clause-texts c = λ n asks told wants got. (c.loop-command.invariant.answered n asks told wants got).texts
+
 pub returns-in_err-reply-clause-unchanged : goal.returns-in_err-reply-clause-unchanged
 returns-in_err-reply-clause-unchanged c = λ n asks told wants got. (c.loop-command.invariant.answered n asks told wants got).unchanged
 
@@ -111,6 +117,12 @@ returns-clause-named c = λ n asks told wants got. (c.loop-command.invariant.ans
 
 pub returns-clause-subtypes : goal.returns-clause-subtypes
 returns-clause-subtypes c = λ n asks told wants got. (c.loop-command.invariant.answered n asks told wants got).subtypes
+
+pub returns-clause-matches : goal.returns-clause-matches
+returns-clause-matches c = λ n asks told wants got. (c.loop-command.invariant.answered n asks told wants got).matches
+
+pub returns-clause-texts : goal.returns-clause-texts
+returns-clause-texts c = λ n asks told wants got. (c.loop-command.invariant.answered n asks told wants got).texts
 
 pub returns-clause-unchanged : goal.returns-clause-unchanged
 returns-clause-unchanged c = λ n asks told wants got. (c.loop-command.invariant.answered n asks told wants got).unchanged
