@@ -5,8 +5,8 @@ use Rattle.wt_env.specs.Limits.{EngineParts}
 use Rattle.wt_env.specs.Stream.{IsTaken, IsAtEnd}
 use Rattle.wt_env.specs.declared.status.Status.{Status}
 use Rattle.wt_env.specs.declared.status.Status.TheVariants as statuses
-use Rattle.wt_session.specs.declared.command.Command.{Command}
-use Rattle.wt_program.specs.Decode.{decode}
+use Rattle.wt_commands.specs.declared.command.Command.{Command}
+use Rattle.wt_commands.specs.Decode.{decode}
 use Rattle.wt_program.specs.Program.{IsJson, IsNotJson, Decodes, IsBadAt, Runs, IsComplete}
 
 -- nothing was taken where the source is as it was

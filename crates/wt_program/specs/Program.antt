@@ -8,10 +8,10 @@ use Rattle.wt_env.specs.declared.status.Status.{Status}
 use Rattle.wt_env.specs.declared.status.Status.TheVariants as statuses
 use Rattle.wt_program.specs.declared.input.InputRefusal.{InputRefusal}
 use Rattle.wt_program.specs.declared.input.InputRefusal.TheVariants as refusals
-use Rattle.wt_session.specs.declared.command.Command.{Command}
+use Rattle.wt_commands.specs.declared.command.Command.{Command}
 use Rattle.wt_session.specs.Run.{replies_of}
 use Rattle.wt_session.specs.Session.{new_world}
-use Rattle.wt_program.specs.Decode.{decode}
+use Rattle.wt_commands.specs.Decode.{decode}
 use Rattle.wt_program.specs.Text.{text_of}
 
 -- what is written for commands: a line for each reply of a new session of the engine

@@ -13,7 +13,7 @@ use Rattle.wt_model.specs.declared.handle_kind.HandleKind.TheVariants as kinds
 use Rattle.wt_session.specs.declared.reply.Refusal.{Refusal}
 use Rattle.wt_session.specs.declared.reply.Refusal.TheVariants as refusals
 use Rattle.wt_session.specs.declared.reply.Reply.{Reply}
-use Rattle.wt_session.specs.declared.reply.Reply.TheVariants.{TypeMade, Module, NoneFound, Owed, Dropped, Swept as SweptReply, Released, Index, Answer, Live, Refused}
+use Rattle.wt_session.specs.declared.reply.Reply.TheVariants.{TypeMade, Module, NoneFound, Owed, Dropped, Swept as SweptReply, Released, Index, Answer, Show, Live, Refused}
 
 abbrev pub line_feed : List ℕ
 line_feed = 10 ∷ []
@@ -87,6 +87,11 @@ abbrev pub answer_word : Bool → List ℕ
 answer_word true = codes "yes"
 answer_word false = codes "no"
 
+-- `show (struct (field i32))`. The text of a type has no byte that a line would have to spell otherwise: none below 32, no
+-- 127 and no backslash.
+abbrev pub show_line : List ℕ → List ℕ
+show_line text = codes "show " ++ text ++ line_feed
+
 -- the line of a reply
 abbrev pub line_of : Reply → List ℕ
 line_of (TypeMade handle index) = codes "type " ++ decimal handle ++ codes " index " ++ decimal index ++ line_feed
@@ -98,6 +103,7 @@ line_of (SweptReply swept) = swept_line swept
 line_of Released = word_line (codes "released")
 line_of (Index index) = codes "index " ++ decimal index ++ line_feed
 line_of (Answer is_so) = word_line (answer_word is_so)
+line_of (Show text) = show_line text
 line_of (Live groups) = live_line groups
 line_of (Refused refusal) = refused_line refusal
 

@@ -5,12 +5,12 @@ ghost use Rattle.serde_json.specs.View.{view};
 ghost use Rattle.wt_env.specs.Limits.{AreValid};
 ghost use Rattle.wt_env.specs.Stream.{IsTaken, Rose};
 ghost use Rattle.wt_program.specs.Program.{IsReadToEnd, IsJson, IsNotJson, Decodes, IsBadAt, HasCommands};
-ghost use Rattle.wt_session.specs.World.{AreCommands};
+ghost use Rattle.wt_commands.specs.Commands.{AreCommands};
 
-use crate::decode::{DecodeError, Input, decode};
 use crate::read::{ReadRefusal, read_all};
 use serde_json::{Category, Value};
 use std::alloc::Global;
+use wt_commands::decode::{DecodeError, Input, decode};
 use wt_env::stream::Source;
 
 /// Why no commands were read.

@@ -2,8 +2,6 @@
 //! each reply to standard output. The rest of the crate is `run` over any source and sink.
 #![tactic(auto)]
 
-mod decode;
-mod decode_engine;
 mod input;
 mod read;
 mod run;

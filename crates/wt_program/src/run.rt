@@ -4,14 +4,14 @@ ghost use Rattle.std.specs.Prelude.{◌≡◌, ◌≢◌, ℕ, ◌^◌, ◌<◌,
 ghost use Rattle.wt_env.specs.Stream.{IsTaken, IsAdded, Rose};
 ghost use Rattle.wt_program.specs.Words.{IsRun};
 ghost use Rattle.wt_program.specs.Program.{output_of, status_for, Runs, IsComplete, IsReadToEnd, IsNotJson, Decodes, IsBadAt, HasCommands};
-ghost use Rattle.wt_session.specs.World.{AreCommands};
+ghost use Rattle.wt_commands.specs.Commands.{AreCommands};
 
-use crate::decode::Input;
 use crate::input::{InputRefusal, read_input};
 use crate::text::text;
 use crate::words::is_run;
 use crate::write::write_all;
 use std::alloc::Global;
+use wt_commands::decode::Input;
 use wt_env::memory::OutOfMemory;
 use wt_env::status::Status;
 use wt_env::stream::{Sink, Source};

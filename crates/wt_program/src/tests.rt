@@ -1,13 +1,16 @@
 //! Rows of the program: what it answers and writes, over sources and sinks in memory.
 
+mod core_types;
 mod rules;
 
-use crate::decode::decode;
 use crate::read::LIMIT;
 use crate::run::run;
 use serde_json::Value;
 use std::alloc::Global;
 use std::test::Fail;
+use wt_commands::command::{Command, are_commands};
+use wt_commands::decode::decode;
+use wt_commands::host_type::{HostShape, HostSub, HostVal};
 use wt_env::limits::{Engine, EngineLimits, Limit};
 use wt_env::memory::OutOfMemory;
 use wt_env::memory_stream::{MemorySink, MemorySource};
@@ -15,7 +18,6 @@ use wt_env::seq::Seq;
 use wt_env::status::Status;
 use wt_env::text::Text;
 use wt_registry::refusal::Full;
-use wt_session::command::{Command, HostSub, HostVal, are_commands};
 use wt_session::reply::{Refusal, Reply};
 use wt_session::run::run_session;
 use wt_session::session::Session;
@@ -584,9 +586,13 @@ fn refuses_long_input(rt: HostRuntime) -> Result<(), Fail> {
 fn registration(alloc: Global, param: HostVal) -> Result<Command, OutOfMemory> {
     Ok(Command::HostType {
         by: 0,
-        sub: HostSub::Func {
-            params: Seq::one(alloc, param)?,
-            results: Seq::new(alloc),
+        sub: HostSub::Declared {
+            is_final: true,
+            supertype: None,
+            shape: HostShape::Func {
+                params: Seq::one(alloc, param)?,
+                results: Seq::new(alloc),
+            },
         },
     })
 }

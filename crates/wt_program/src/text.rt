@@ -2,7 +2,7 @@
 
 ghost use Rattle.std.specs.Prelude.{◌≡◌, ◌++◌, IfOk, OnOk, codes, string_bytes};
 ghost use Rattle.std.specs.List.{flat_map};
-ghost use Rattle.wt_program.specs.Text.{answer_word, indices_text, group_text, word_line, swept_line, live_line, kind_word, no_such_handle_text, no_such_type_text, later_index_text, module_line, build_text, refusal_text, refused_line, line_of, text_of};
+ghost use Rattle.wt_program.specs.Text.{answer_word, show_line, indices_text, group_text, word_line, swept_line, live_line, kind_word, no_such_handle_text, no_such_type_text, later_index_text, module_line, build_text, refusal_text, refused_line, line_of, text_of};
 
 use std::alloc::Global;
 use wt_env::memory::OutOfMemory;
@@ -38,6 +38,14 @@ fn answer_word(is_so: bool) -> &'static str
     ensures { result.now ≡ answer_word is_so }
 {
     if is_so { "yes" } else { "no" }
+}
+
+/// Adds the line of the text of a type, which has no byte that a line would have to spell otherwise.
+fn push_shown(text: &mut String, shown: &str) -> Result<(), OutOfMemory>
+    ensures { OnOk result (string_bytes text.new ≡ string_bytes text.old ++ show_line shown.now) }
+{
+    text.push_str("show ")?;
+    push_word(text, shown)
 }
 
 fn push_swept(text: &mut String, swept: Swept) -> Result<(), OutOfMemory>
@@ -198,6 +206,7 @@ fn push_line(text: &mut String, reply: &Reply) -> Result<(), OutOfMemory>
         Reply::Released => push_word(text, "released"),
         Reply::Index(index) => push_index(text, *index),
         Reply::Answer(is_so) => push_word(text, answer_word(*is_so)),
+        Reply::Show { text: shown } => push_shown(text, shown.as_str()),
         Reply::Live(groups) => push_live(text, groups.as_slice()),
         Reply::Refused(refusal) => push_refused(text, refusal),
     }
@@ -220,9 +229,11 @@ mod tests {
     use std::test::Fail;
     use wt_env::limits::Limit;
     use wt_env::seq::Seq;
+    use wt_env::text::Text;
     use wt_env::types::{Kind, VMSharedTypeIndex};
     use wt_registry::place::{Place, Rule};
     use wt_registry::refusal::Full;
+    use wt_session::type_text::TypeText;
 
     #[test]
     fn writes_one_line_for_each_reply(rt: HostRuntime) -> Result<(), Fail> {
@@ -268,6 +279,12 @@ mod tests {
             (Reply::Swept(Swept::Gone), "gone\n"),
             (Reply::Answer(true), "yes\n"),
             (Reply::Answer(false), "no\n"),
+            (
+                Reply::Show {
+                    text: TypeText::new(Text::from_str(rt.alloc(), "(struct (field (mut i32)))")?),
+                },
+                "show (struct (field (mut i32)))\n",
+            ),
             (
                 Reply::Refused(Refusal::NoSuchHandle {
                     party: 2,
