@@ -1,0 +1,3 @@
+pub mod Causes
+pub mod ConstantGlobals
+pub mod KnownIndices
