@@ -5,7 +5,7 @@ use Rattle.std.specs.Option.{option_map_or}
 use Rattle.serde_json.specs.Data.{Data, Items, no_items, item}
 use Rattle.serde_json.specs.Find.{get, as_str, as_array}
 use Rattle.serde_json.specs.Read.{read}
-use Rattle.wt_env.specs.DecodeGroups.{decode_groups}
+use Rattle.wt_decode.specs.DecodeGroups.{decode_groups}
 use Rattle.wt_env.specs.Limits.{EngineParts}
 use Rattle.wt_env.specs.declared.types.ModuleTypes.{ModuleTypes}
 use Rattle.wt_rules.specs.Rules.{total_members, AreCountable, AreModuleTypes}

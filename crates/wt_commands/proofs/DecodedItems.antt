@@ -5,8 +5,8 @@ use Rattle.std.specs.Ordering.{nat_cmp, match_ordering}
 use Rattle.std.specs.Cmp.Lexicographic.{slice_cmp}
 use Rattle.serde_json.specs.Data.{Data, null, boolean, number, string, array, object, Items, no_items, item, Members, no_members, member}
 use Rattle.serde_json.specs.Find.{get_member, get, as_array}
-use Rattle.wt_env.specs.Json.{each_of}
-use Rattle.wt_env.specs.DecodeGroups.{decode_member, decode_group, decode_groups}
+use Rattle.wt_decode.specs.Json.{each_of}
+use Rattle.wt_decode.specs.DecodeGroups.{decode_member, decode_group, decode_groups}
 use Rattle.wt_env.specs.declared.types.WasmRecGroup.{WasmRecGroup}
 use Rattle.wt_rules.specs.Rules.{total_members}
 use Rattle.wt_commands.specs.ItemCount.{item_count, items_count, members_count}

@@ -4,9 +4,9 @@ use Rattle.std.specs.Prelude.{⊤, IfSome, bytes_eq, codes, option_to_list}
 use Rattle.std.specs.Option.{option_map_or}
 use Rattle.serde_json.specs.Data.{Data, Items, no_items, item}
 use Rattle.serde_json.specs.Find.{get, as_str, as_array}
-use Rattle.wt_env.specs.Json.{key_count, only_at, decode_u32, each_of, two_of}
-use Rattle.wt_env.specs.DecodeValues.{abstract_named, decode_index, decode_concrete, decode_heap, nullable_named, ref_to, decode_spelled_ref, decode_ref, number_named, decode_number, decode_val, packed_named, decode_packed, decode_storage, field_of, decode_field}
-use Rattle.wt_env.specs.DecodeGroups.{decode_vals, func_from, decode_func, decode_struct, decode_array, decode_cont, decode_constant, decode_constants, exn_from, exn_in, composite_in, final_in, super_in, known_keys, member_in, decode_member, decode_group, decode_groups}
+use Rattle.wt_decode.specs.Json.{key_count, only_at, decode_u32, each_of, two_of}
+use Rattle.wt_decode.specs.DecodeValues.{abstract_named, decode_index, decode_concrete, decode_heap, nullable_named, ref_to, decode_spelled_ref, decode_ref, number_named, decode_number, decode_val, packed_named, decode_packed, decode_storage, field_of, decode_field}
+use Rattle.wt_decode.specs.DecodeGroups.{decode_vals, func_from, decode_func, decode_struct, decode_array, decode_cont, decode_constant, decode_constants, exn_from, exn_in, composite_in, final_in, super_in, known_keys, member_in, decode_member, decode_group, decode_groups}
 use Rattle.wt_env.specs.declared.types.EngineOrModuleTypeIndex.{EngineOrModuleTypeIndex}
 use Rattle.wt_env.specs.declared.types.EngineOrModuleTypeIndex.TheVariants.{Module}
 use Rattle.wt_env.specs.declared.types.Kind.{Kind}

@@ -4,7 +4,7 @@ use Rattle.std.specs.Prelude.{⊤, IfSome}
 use Rattle.std.specs.List.{flat_map}
 use Rattle.std.specs.Option.{option_map_or, option_or}
 use Rattle.serde_json.specs.Data.{Data, Items, no_items, item}
-use Rattle.wt_env.specs.Json.{each_of}
+use Rattle.wt_decode.specs.Json.{each_of}
 use Rattle.wt_env.specs.Among.{Among}
 
 -- ---- options

@@ -4,9 +4,9 @@ use Rattle.std.specs.Prelude.{ℕ, suc, ◌-◌, ◌==◌, bytes_eq, codes, List
 use Rattle.std.specs.Option.{option_map_or}
 use Rattle.serde_json.specs.Data.{Data, Items, no_items, item}
 use Rattle.serde_json.specs.Find.{get, as_str, as_array}
-use Rattle.wt_env.specs.DecodeGroups.{decode_groups}
+use Rattle.wt_decode.specs.DecodeGroups.{decode_groups}
 use Rattle.wt_env.specs.Limits.{EngineParts}
-use Rattle.wt_env.specs.Json.{key_count, decode_u32}
+use Rattle.wt_decode.specs.Json.{key_count, decode_u32}
 use Rattle.wt_commands.specs.DecodeEngine.{usual_engine, decode_engine}
 use Rattle.wt_commands.specs.DecodeHost.{decode_u32_at, decode_named_type, decode_val, decode_sub}
 use Rattle.wt_commands.specs.declared.command.NamedType.{NamedType}

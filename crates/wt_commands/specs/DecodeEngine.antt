@@ -4,7 +4,7 @@ use Rattle.std.specs.Prelude.{ℕ, ◌+◌, ◌==◌, Bool, true, false, ◌&&�
 use Rattle.std.specs.Option.{option_map_or}
 use Rattle.serde_json.specs.Data.{Data}
 use Rattle.serde_json.specs.Find.{get, as_bool, as_number, as_u64, as_object}
-use Rattle.wt_env.specs.Json.{key_count, only_at}
+use Rattle.wt_decode.specs.Json.{key_count, only_at}
 use Rattle.wt_env.specs.Limits.{EngineParts}
 use Rattle.wt_env.specs.declared.limits.EngineLimits.{EngineLimits}
 

@@ -5,9 +5,9 @@ use Rattle.std.specs.Prelude.{ℕ, ◌+◌, ◌==◌, Bool, true, false, codes, 
 use Rattle.std.specs.Option.{option_map_or, option_or}
 use Rattle.serde_json.specs.Data.{Data}
 use Rattle.serde_json.specs.Find.{get, as_array}
-use Rattle.wt_env.specs.Json.{key_count, only_at, count_at, decode_u32, each_of, two_of}
-use Rattle.wt_env.specs.DecodeValues as values
-use Rattle.wt_env.specs.DecodeGroups.{final_in}
+use Rattle.wt_decode.specs.Json.{key_count, only_at, count_at, decode_u32, each_of, two_of}
+use Rattle.wt_decode.specs.DecodeValues as values
+use Rattle.wt_decode.specs.DecodeGroups.{final_in}
 use Rattle.wt_env.specs.declared.types.WasmHeapType.{WasmHeapType}
 use Rattle.wt_env.specs.declared.types.WasmHeapType.TheVariants as heap
 use Rattle.wt_env.specs.declared.types.WasmValType.{WasmValType}

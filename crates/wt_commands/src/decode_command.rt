@@ -1,4 +1,4 @@
-//! A command from JSON: which one a value stands for, if any. It rests on `decode_host`, on `decode_groups` of `wt_env`,
+//! A command from JSON: which one a value stands for, if any. It rests on `decode_host`, on `decode_groups` of `wt_decode`,
 //! and on what `serde_json` says of looking into a value.
 
 ghost use Rattle.std.specs.Prelude.{◌≡◌, IfOk};
@@ -10,8 +10,8 @@ use crate::decode_host::{decode_named_type, decode_sub, decode_u32_at, decode_va
 use crate::host_type::HostVal;
 use serde_json::Value;
 use std::alloc::Global;
-use wt_env::decode_groups::decode_groups;
-use wt_env::json::{decode_u32, key_count};
+use wt_decode::decode_groups::decode_groups;
+use wt_decode::json::{decode_u32, key_count};
 use wt_env::memory::OutOfMemory;
 
 /// A command: an object whose key `do` says which.

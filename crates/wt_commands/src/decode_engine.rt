@@ -1,5 +1,5 @@
 //! The engine of a list of commands, which its first element may say. It rests on the readers of
-//! `wt_env::json`, and on what `serde_json` says of looking into a value.
+//! `wt_decode::json`, and on what `serde_json` says of looking into a value.
 
 ghost use Rattle.std.specs.Prelude.{◌≡◌, ◌≤◌, IfSome};
 ghost use Rattle.serde_json.specs.Find.{get};
@@ -8,7 +8,7 @@ ghost use Rattle.wt_env.specs.Limits.{AreValid};
 ghost use Rattle.wt_commands.specs.DecodeEngine.{usual_limits, usual_engine, one_if_some, engine_keys, limit_keys, is_object_of, up_to, decode_limit, limit_at, limits_in, decode_limits, limits_at, gc_at, is_one, has_profile, engine_in, decode_engine};
 
 use serde_json::Value;
-use wt_env::json::{key_count, only_at};
+use wt_decode::json::{key_count, only_at};
 use wt_env::limits::{Engine, EngineLimits};
 
 /// The greatest value of each limit.

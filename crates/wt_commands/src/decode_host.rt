@@ -1,18 +1,18 @@
 //! Types of a host, and types that its handles name, from JSON: which one a value stands for, if any. The words and what
-//! has no index in it are read by `decode_values` of `wt_env`.
+//! has no index in it are read by `decode_values` of `wt_decode`.
 
 ghost use Rattle.std.specs.Prelude.{◌≡◌, IfOk};
 ghost use Rattle.serde_json.specs.View.{view, items_view};
-ghost use Rattle.wt_env.specs.Json.{each_of};
-ghost use Rattle.wt_env.specs.DecodeGroups.{final_in};
+ghost use Rattle.wt_decode.specs.Json.{each_of};
+ghost use Rattle.wt_decode.specs.DecodeGroups.{final_in};
 ghost use Rattle.wt_commands.specs.DecodeHost.{decode_u32_at, type_of_handle, type_of_module, decode_named_type, host_heap, ref_to, host_val, named_ref, decode_named_ref, decode_plain, decode_val, decode_vals, host_packed, decode_packed, decode_storage, decode_field, func_from, decode_func, decode_struct, decode_array, shape_in, super_in, declared_in, known_keys, decode_declared, decode_exception, decode_tag, decode_sub};
 
 use crate::command::NamedType;
 use crate::host_type::{HostField, HostHeap, HostRef, HostShape, HostStorage, HostSub, HostVal};
 use serde_json::Value;
 use std::alloc::Global;
-use wt_env::decode_values;
-use wt_env::json::{count_at, decode_u32, key_count, only_at};
+use wt_decode::decode_values;
+use wt_decode::json::{count_at, decode_u32, key_count, only_at};
 use wt_env::memory::OutOfMemory;
 use wt_env::seq::Seq;
 use wt_env::types::{WasmHeapType, WasmStorageType, WasmValType};

@@ -1,4 +1,3 @@
-pub mod Items
 pub mod Parted
 pub mod Erased
 pub mod lists

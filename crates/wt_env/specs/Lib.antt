@@ -1,9 +1,6 @@
 pub mod Counts
-pub mod DecodeGroups
-pub mod DecodeValues
 pub mod Equality
 pub mod Erasure
-pub mod Json
 pub mod Limits
 pub mod MemoryStream
 pub mod Status

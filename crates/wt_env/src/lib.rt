@@ -1,11 +1,8 @@
-//! The data that every other crate speaks of: core types as data and their form in JSON, the engine
-//! and its limits, the statuses of a run, and the streams that bytes come from and go to.
+//! The data that every other crate speaks of: core types as data and their texts, the engine and its
+//! limits, the statuses of a run, and the streams that bytes come from and go to.
 #![tactic(auto)]
 
-pub mod decode_groups;
-pub mod decode_values;
 pub mod erasure;
-pub mod json;
 pub mod limits;
 pub mod memory;
 pub mod memory_stream;

@@ -7,7 +7,7 @@ use std::alloc::{AllocError, Global};
 use std::hash::{Hash, Hasher};
 use std::marker::Model;
 
-/// A `String` that contracts see as its bytes, in UTF-8.
+/// A `String` that contracts see as its bytes, in UTF-8. Two are equal where their bytes are.
 #[derive(Debug, Drop)]
 pub struct Text {
     text: String,
@@ -19,6 +19,28 @@ impl Model for Text {
     ghost Value = { List ℕ };
 
     ghost view = { λ text. string_bytes text.text };
+}
+
+impl PartialEq for Text {
+    ghost use Rattle.std.specs.Prelude.{◌==◌};
+    ghost use Rattle.std.specs.Cmp.Lexicographic.{pointwise};
+    ghost use Rattle.std.proofs.Common.{rules};
+    ghost use Rattle.std.specs.Cmp.Rules.{comparing};
+
+    ghost eq = { pointwise ◌==◌ };
+
+    ghost laws = { Prim.search (comparing, rules) };
+
+    fn eq(&self, other: &Text) -> bool {
+        self.text.as_str() == other.text.as_str()
+    }
+}
+
+impl Eq for Text {
+    ghost use Rattle.std.proofs.Common.{rules};
+    ghost use Rattle.std.specs.Cmp.Rules.{comparing};
+
+    ghost laws = { Prim.search (comparing, rules) };
 }
 
 impl Text {

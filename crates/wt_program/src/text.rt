@@ -233,7 +233,6 @@ mod tests {
     use wt_env::types::{Kind, VMSharedTypeIndex};
     use wt_registry::place::{Place, Rule};
     use wt_registry::refusal::Full;
-    use wt_session::type_text::TypeText;
 
     #[test]
     fn writes_one_line_for_each_reply(rt: HostRuntime) -> Result<(), Fail> {
@@ -281,7 +280,7 @@ mod tests {
             (Reply::Answer(false), "no\n"),
             (
                 Reply::Show {
-                    text: TypeText::new(Text::from_str(rt.alloc(), "(struct (field (mut i32)))")?),
+                    text: Text::from_str(rt.alloc(), "(struct (field (mut i32)))")?,
                 },
                 "show (struct (field (mut i32)))\n",
             ),

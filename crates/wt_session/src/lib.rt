@@ -21,7 +21,6 @@ mod named_types;
 // What was made is counted, and a reply is given.
 pub mod counts;
 pub mod reply;
-pub mod type_text;
 // Commands are run in turn.
 pub mod run;
 // What follows from the contracts.

@@ -15,7 +15,6 @@ use crate::missing_names::missing_in_two;
 use crate::module_handles::find_module;
 use crate::reply::{HandleKind, Refusal, Reply};
 use crate::type_handles::{find_type, no_such_handle};
-use crate::type_text::TypeText;
 use std::alloc::Global;
 use wt_commands::command::NamedType;
 use wt_commands::host_type::HostVal;
@@ -214,7 +213,7 @@ pub(crate) fn show_type(
         Some(shown) => {
             let text = format!(in alloc; "{shown}")?;
             Ok(Reply::Show {
-                text: TypeText::new(Text::from_string(text)),
+                text: Text::from_string(text),
             })
         }
         None => Ok(Reply::Refused(no_such_type(party.number(), name))),

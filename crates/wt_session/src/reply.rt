@@ -1,7 +1,7 @@
 //! What a session answers to a command.
 
-use crate::type_text::TypeText;
 use wt_env::seq::Seq;
+use wt_env::text::Text;
 use wt_env::types::{Kind, VMSharedTypeIndex};
 pub use wt_registry::handle_kind::HandleKind;
 use wt_registry::live::LiveGroup;
@@ -76,7 +76,7 @@ pub enum Reply {
     /// Whether what was asked is so.
     Answer(bool),
     /// The text of a type.
-    Show { text: TypeText },
+    Show { text: Text },
     /// The registered groups, in order of their registration numbers.
     Live(Seq<LiveGroup>),
     /// The command was refused.

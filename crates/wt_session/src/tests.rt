@@ -5,7 +5,6 @@ use crate::host_type::{HostField, HostHeap, HostRef, HostShape, HostStorage, Hos
 use crate::reply::{HandleKind, Refusal, Reply};
 use crate::run::run_session;
 use crate::session::Session;
-use crate::type_text::TypeText;
 use std::alloc::Global;
 use std::process::Abort;
 use std::test::Fail;
@@ -30,7 +29,7 @@ fn replies_to(rt: &impl Abort, alloc: Global, commands: &[Command]) -> Vec<Reply
 
 fn shown(alloc: Global, text: &str) -> Result<Reply, OutOfMemory> {
     Ok(Reply::Show {
-        text: TypeText::new(Text::from_str(alloc, text)?),
+        text: Text::from_str(alloc, text)?,
     })
 }
 

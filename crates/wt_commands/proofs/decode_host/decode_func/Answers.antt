@@ -1,5 +1,5 @@
 use Rattle.std.proofs.Common.{sym, arith}
-use Rattle.wt_env.proofs.Items.{two_of-not_two}
+use Rattle.wt_decode.proofs.Items.{two_of-not_two}
 use Rattle.wt_commands.specs.DecodeHost.{func_from}
 use Rattle.wt_commands.proofs.decode_host.decode_func.Goals as goal
 

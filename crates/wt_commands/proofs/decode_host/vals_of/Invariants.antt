@@ -1,6 +1,6 @@
 use Rattle.std.proofs.Common.{◌≡◌, ◌++◌, option_map, drop}
 use Rattle.serde_json.specs.View.{items_view}
-use Rattle.wt_env.specs.Json.{each_of}
+use Rattle.wt_decode.specs.Json.{each_of}
 use Rattle.wt_commands.specs.DecodeHost.{decode_val}
 use Rattle.wt_commands.proofs.decode_host.vals_of.Given as goal
 

@@ -3,14 +3,14 @@
 
 ghost use Rattle.std.specs.Prelude.{◌≡◌};
 ghost use Rattle.serde_json.specs.View.{view};
-ghost use Rattle.wt_env.specs.DecodeValues.{abstract_named, decode_index, decode_concrete, decode_heap, nullable_named, decode_spelled_ref, decode_ref, number_named, decode_number, decode_val, packed_named, decode_packed, decode_storage, decode_field};
+ghost use Rattle.wt_decode.specs.DecodeValues.{abstract_named, decode_index, decode_concrete, decode_heap, nullable_named, decode_spelled_ref, decode_ref, number_named, decode_number, decode_val, packed_named, decode_packed, decode_storage, decode_field};
 
 use crate::json::{decode_u32, only_at};
-use crate::types::{
+use serde_json::Value;
+use wt_env::types::{
     EngineOrModuleTypeIndex, ModuleInternedTypeIndex, WasmFieldType, WasmHeapType, WasmRefType,
     WasmStorageType, WasmValType,
 };
-use serde_json::Value;
 
 /// A field: `{"mut": storage type}` where it is mutable, else the storage type alone (WebAssembly 3.0,
 /// "Field Types").

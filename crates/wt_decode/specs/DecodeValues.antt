@@ -5,7 +5,7 @@ use Rattle.std.specs.Prelude.{ℕ, Bool, true, false, bytes_eq, codes, List, Opt
 use Rattle.std.specs.Option.{option_map_or, option_or}
 use Rattle.serde_json.specs.Data.{Data}
 use Rattle.serde_json.specs.Find.{as_str}
-use Rattle.wt_env.specs.Json.{only_at, decode_u32}
+use Rattle.wt_decode.specs.Json.{only_at, decode_u32}
 use Rattle.wt_env.specs.declared.types.EngineOrModuleTypeIndex.{EngineOrModuleTypeIndex}
 use Rattle.wt_env.specs.declared.types.EngineOrModuleTypeIndex.TheVariants.{Module}
 use Rattle.wt_env.specs.declared.types.WasmHeapType.{WasmHeapType}

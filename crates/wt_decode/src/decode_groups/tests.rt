@@ -1,10 +1,10 @@
 //! Rows of texts, and the groups that they stand for.
 
 use super::*;
-use crate::types::{
+use std::test::Fail;
+use wt_env::types::{
     EngineOrModuleTypeIndex, ModuleInternedTypeIndex, WasmHeapType, WasmRefType, WasmStorageType,
 };
-use std::test::Fail;
 
 /// The final type of a shape, with no supertype.
 fn member(composite_type: WasmCompositeInnerType) -> WasmSubType {

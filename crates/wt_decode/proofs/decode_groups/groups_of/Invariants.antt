@@ -1,8 +1,8 @@
 use Rattle.std.proofs.Common.{◌≡◌, ◌++◌, option_map, drop}
 use Rattle.serde_json.specs.View.{items_view}
-use Rattle.wt_env.specs.Json.{each_of}
-use Rattle.wt_env.specs.DecodeGroups.{decode_group}
-use Rattle.wt_env.proofs.decode_groups.groups_of.Given as goal
+use Rattle.wt_decode.specs.Json.{each_of}
+use Rattle.wt_decode.specs.DecodeGroups.{decode_group}
+use Rattle.wt_decode.proofs.decode_groups.groups_of.Given as goal
 
 -- what the elements so far gave stands before what the others give
 abbrev pub invariant-loop-value : goal.invariant-loop-value

@@ -3,7 +3,7 @@
 
 ghost use Rattle.std.specs.Prelude.{◌≡◌, ◌≤◌, option_map};
 ghost use Rattle.serde_json.specs.View.{view};
-ghost use Rattle.wt_env.specs.Json.{key_count, only_at, count_at, u32_of, decode_u32};
+ghost use Rattle.wt_decode.specs.Json.{key_count, only_at, count_at, u32_of, decode_u32};
 
 use serde_json::Value;
 

@@ -4,7 +4,7 @@ use Rattle.std.proofs.lemmas.List.{append_assoc, drop_more}
 use Rattle.serde_json.specs.Data.{Data}
 use Rattle.serde_json.specs.View.{view, items_view}
 use Rattle.serde_json.specs.declared.value.Value.{Value}
-use Rattle.wt_env.specs.Json.{each_of, two_of}
+use Rattle.wt_decode.specs.Json.{each_of, two_of}
 
 -- other than two items stand for nothing
 pub two_of-not_two : {X : Type 0} (read : Data → Data → Option X) (xs : List Value) → length xs ≢ 2 → two_of read (items_view xs) ≡ None

@@ -3,21 +3,21 @@
 
 ghost use Rattle.std.specs.Prelude.{◌≡◌, ◌≤◌, IfOk};
 ghost use Rattle.serde_json.specs.View.{view, items_view};
-ghost use Rattle.wt_env.specs.Json.{each_of};
-ghost use Rattle.wt_env.specs.DecodeValues.{decode_index, decode_val, decode_field};
-ghost use Rattle.wt_env.specs.DecodeGroups.{decode_vals, func_from, decode_func, decode_struct, decode_array, decode_cont, decode_constant, decode_constants, exn_from, exn_in, composite_in, final_in, super_in, shape_keys, known_keys, member_in, decode_member, decode_group, decode_groups};
+ghost use Rattle.wt_decode.specs.Json.{each_of};
+ghost use Rattle.wt_decode.specs.DecodeValues.{decode_index, decode_val, decode_field};
+ghost use Rattle.wt_decode.specs.DecodeGroups.{decode_vals, func_from, decode_func, decode_struct, decode_array, decode_cont, decode_constant, decode_constants, exn_from, exn_in, composite_in, final_in, super_in, shape_keys, known_keys, member_in, decode_member, decode_group, decode_groups};
 
 use crate::decode_values::{decode_field, decode_index, decode_val};
 use crate::json::{count_at, key_count};
-use crate::memory::OutOfMemory;
-use crate::seq::Seq;
-use crate::types::{
+use serde_json::Value;
+use std::alloc::Global;
+use wt_env::memory::OutOfMemory;
+use wt_env::seq::Seq;
+use wt_env::types::{
     EngineOrModuleTypeIndex, ModuleTypes, WasmArrayType, WasmCompositeInnerType, WasmContType,
     WasmExnType, WasmFieldType, WasmFuncType, WasmRecGroup, WasmStorageType, WasmStructType,
     WasmSubType, WasmValType,
 };
-use serde_json::Value;
-use std::alloc::Global;
 
 /// The recursion groups of a module (WebAssembly 3.0, "Types" and "Recursive Types"): a list of groups,
 /// each a list of members. A member is an object with the key of one shape, `"func"` (parameters and

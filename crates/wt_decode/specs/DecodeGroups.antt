@@ -4,8 +4,8 @@ use Rattle.std.specs.Prelude.{ℕ, ◌+◌, ◌==◌, Bool, true, false, codes, 
 use Rattle.std.specs.Option.{option_map_or}
 use Rattle.serde_json.specs.Data.{Data}
 use Rattle.serde_json.specs.Find.{get, as_bool, as_array}
-use Rattle.wt_env.specs.Json.{key_count, count_at, each_of, two_of}
-use Rattle.wt_env.specs.DecodeValues.{decode_index, decode_val, field_of, decode_field}
+use Rattle.wt_decode.specs.Json.{key_count, count_at, each_of, two_of}
+use Rattle.wt_decode.specs.DecodeValues.{decode_index, decode_val, field_of, decode_field}
 use Rattle.wt_env.specs.declared.types.EngineOrModuleTypeIndex.{EngineOrModuleTypeIndex}
 use Rattle.wt_env.specs.declared.types.WasmValType.{WasmValType}
 use Rattle.wt_env.specs.declared.types.WasmStorageType.TheVariants.{Val}

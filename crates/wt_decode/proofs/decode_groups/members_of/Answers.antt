@@ -1,8 +1,8 @@
 use Rattle.std.proofs.Common.{rules, ◌≡◌, Some}
 use Rattle.serde_json.specs.View.{view}
-use Rattle.wt_env.specs.DecodeGroups.{decode_member}
-use Rattle.wt_env.proofs.Items.{each_of-kept}
-use Rattle.wt_env.proofs.decode_groups.members_of.Goals as goal
+use Rattle.wt_decode.specs.DecodeGroups.{decode_member}
+use Rattle.wt_decode.proofs.Items.{each_of-kept}
+use Rattle.wt_decode.proofs.decode_groups.members_of.Goals as goal
 
 pub loop-value-preserved : goal.loop-value-preserved
 loop-value-preserved c =
