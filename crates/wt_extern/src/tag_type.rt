@@ -64,7 +64,7 @@ pub(crate) fn name_of(engine: u64, index: EngineOrModuleTypeIndex) -> FuncName
     ensures index { index ≡ type_index.Engine result.index }
 {
     match index {
-        EngineOrModuleTypeIndex::Engine(index) => FuncName::new(engine, index),
+        EngineOrModuleTypeIndex::Engine(index) => FuncName { engine, index },
         _ => unreachable!(),
     }
 }

@@ -1,3 +1,1 @@
-pub mod ChainedMatches
-pub mod EqualTypes
 pub mod KnownTypes

@@ -403,18 +403,33 @@ impl HeapType {
             WasmHeapType::Extern => HeapType::Extern,
             WasmHeapType::NoExtern => HeapType::NoExtern,
             WasmHeapType::Func => HeapType::Func,
-            WasmHeapType::ConcreteFunc(index) => FuncName::new(engine, shared(index)).into(),
+            WasmHeapType::ConcreteFunc(index) => {
+                let index = shared(index);
+                FuncName { engine, index }.into()
+            }
             WasmHeapType::NoFunc => HeapType::NoFunc,
             WasmHeapType::Any => HeapType::Any,
             WasmHeapType::Eq => HeapType::Eq,
             WasmHeapType::I31 => HeapType::I31,
             WasmHeapType::Array => HeapType::Array,
-            WasmHeapType::ConcreteArray(index) => ArrayName::new(engine, shared(index)).into(),
+            WasmHeapType::ConcreteArray(index) => {
+                let index = shared(index);
+                ArrayName { engine, index }.into()
+            }
             WasmHeapType::Struct => HeapType::Struct,
-            WasmHeapType::ConcreteStruct(index) => StructName::new(engine, shared(index)).into(),
+            WasmHeapType::ConcreteStruct(index) => {
+                let index = shared(index);
+                StructName { engine, index }.into()
+            }
             WasmHeapType::Exn => HeapType::Exn,
-            WasmHeapType::ConcreteExn(index) => ExnName::new(engine, shared(index)).into(),
-            WasmHeapType::ConcreteCont(index) => ContName::new(engine, shared(index)).into(),
+            WasmHeapType::ConcreteExn(index) => {
+                let index = shared(index);
+                ExnName { engine, index }.into()
+            }
+            WasmHeapType::ConcreteCont(index) => {
+                let index = shared(index);
+                ContName { engine, index }.into()
+            }
             WasmHeapType::Cont => HeapType::Cont,
             WasmHeapType::NoCont => HeapType::NoCont,
             WasmHeapType::None => HeapType::None,

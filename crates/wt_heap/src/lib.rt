@@ -6,7 +6,6 @@
 pub mod field_type;
 pub mod heap_type;
 pub mod hierarchy;
-pub mod laws;
 pub mod mutability;
 pub mod names;
 pub mod ref_type;

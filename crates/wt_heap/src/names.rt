@@ -1,7 +1,5 @@
 //! Names of registered types, one for each kind. A name holds nothing: whoever uses it sees to it that the type stays.
 
-ghost use Rattle.std.specs.Prelude.{◌≡◌};
-
 use wt_env::types::VMSharedTypeIndex;
 
 /// The name of a function type.
@@ -9,17 +7,8 @@ use wt_env::types::VMSharedTypeIndex;
 pub struct FuncName {
     /// The number of the engine that has the type.
     pub engine: u64,
+    /// The index of the type in that engine.
     pub index: VMSharedTypeIndex,
-}
-
-impl FuncName {
-    /// The name of the function type that the engine with this number has at this index.
-    pub fn new(engine: u64, index: VMSharedTypeIndex) -> FuncName
-        ensures engine { result.engine ≡ engine }
-        ensures index { result.index ≡ index }
-    {
-        FuncName { engine, index }
-    }
 }
 
 /// The name of an array type.
@@ -27,17 +16,8 @@ impl FuncName {
 pub struct ArrayName {
     /// The number of the engine that has the type.
     pub engine: u64,
+    /// The index of the type in that engine.
     pub index: VMSharedTypeIndex,
-}
-
-impl ArrayName {
-    /// The name of the array type that the engine with this number has at this index.
-    pub fn new(engine: u64, index: VMSharedTypeIndex) -> ArrayName
-        ensures engine { result.engine ≡ engine }
-        ensures index { result.index ≡ index }
-    {
-        ArrayName { engine, index }
-    }
 }
 
 /// The name of a struct type.
@@ -45,17 +25,8 @@ impl ArrayName {
 pub struct StructName {
     /// The number of the engine that has the type.
     pub engine: u64,
+    /// The index of the type in that engine.
     pub index: VMSharedTypeIndex,
-}
-
-impl StructName {
-    /// The name of the struct type that the engine with this number has at this index.
-    pub fn new(engine: u64, index: VMSharedTypeIndex) -> StructName
-        ensures engine { result.engine ≡ engine }
-        ensures index { result.index ≡ index }
-    {
-        StructName { engine, index }
-    }
 }
 
 /// The name of a continuation type.
@@ -63,17 +34,8 @@ impl StructName {
 pub struct ContName {
     /// The number of the engine that has the type.
     pub engine: u64,
+    /// The index of the type in that engine.
     pub index: VMSharedTypeIndex,
-}
-
-impl ContName {
-    /// The name of the continuation type that the engine with this number has at this index.
-    pub fn new(engine: u64, index: VMSharedTypeIndex) -> ContName
-        ensures engine { result.engine ≡ engine }
-        ensures index { result.index ≡ index }
-    {
-        ContName { engine, index }
-    }
 }
 
 /// The name of an exception type.
@@ -81,15 +43,6 @@ impl ContName {
 pub struct ExnName {
     /// The number of the engine that has the type.
     pub engine: u64,
+    /// The index of the type in that engine.
     pub index: VMSharedTypeIndex,
-}
-
-impl ExnName {
-    /// The name of the exception type that the engine with this number has at this index.
-    pub fn new(engine: u64, index: VMSharedTypeIndex) -> ExnName
-        ensures engine { result.engine ≡ engine }
-        ensures index { result.index ≡ index }
-    {
-        ExnName { engine, index }
-    }
 }

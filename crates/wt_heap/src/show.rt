@@ -87,7 +87,10 @@ mod tests {
 
     #[test]
     fn tells_heap_types(rt: HostRuntime) -> Result<(), Fail> {
-        let exn = HeapType::ConcreteExn(ExnName::new(7, VMSharedTypeIndex(0)));
+        let exn = HeapType::ConcreteExn(ExnName {
+            engine: 7,
+            index: VMSharedTypeIndex(0),
+        });
         let rows = [
             (HeapType::Any, "any"),
             (HeapType::NoExtern, "noextern"),

@@ -8,7 +8,6 @@ ghost use Rattle.wt_heap.specs.Matches.{HeapIsKnown};
 use crate::field_type::FieldType;
 use crate::heap_type::HeapType;
 use crate::hierarchy::{HeapBottomType, HeapTopType};
-use crate::laws;
 use crate::mutability::{Finality, Mutability};
 use crate::names::{ArrayName, ContName, ExnName, FuncName, StructName};
 use crate::ref_type::RefType;
@@ -303,11 +302,12 @@ fn heap_types_are_told_apart(rt: HostRuntime) -> Result<(), Fail> {
 
 #[test]
 fn names_are_read_back(rt: HostRuntime) -> Result<(), Fail> {
-    let func = FuncName::new(1, UPPER);
-    let array = ArrayName::new(1, UPPER);
-    let name = StructName::new(1, UPPER);
-    let cont = ContName::new(1, UPPER);
-    let exn = ExnName::new(1, UPPER);
+    let (engine, index) = (1, UPPER);
+    let func = FuncName { engine, index };
+    let array = ArrayName { engine, index };
+    let name = StructName { engine, index };
+    let cont = ContName { engine, index };
+    let exn = ExnName { engine, index };
     assert_eq!(rt; HeapType::from(func), FUNC);
     assert_eq!(rt; HeapType::from(array), ARRAY);
     assert_eq!(rt; HeapType::from(name), UPPER_STRUCT);
@@ -520,40 +520,6 @@ fn type_data_goes_and_comes_back(rt: HostRuntime) -> Result<(), Fail> {
         mutable: true,
     };
     assert_eq!(rt; field.to_wasm(), data);
-    assert_eq!(rt; laws::field_comes_back(1, &field), field);
-    assert_eq!(rt;
-        laws::storage_comes_back(1, &StorageType::I16),
-        StorageType::I16
-    );
-    assert_eq!(rt; laws::val_comes_back(1, &ValType::V128), ValType::V128);
-    assert_eq!(rt; laws::ref_comes_back(1, &reference), reference);
-    assert_eq!(rt; laws::heap_comes_back(1, &LOWER_STRUCT), LOWER_STRUCT);
-    Ok(())
-}
-
-#[test]
-#[tactic(auto, using(crate::proofs::KnownTypes::known_none))]
-fn laws_are_asked(rt: HostRuntime) -> Result<(), Fail> {
-    let supers = two_structs(rt.alloc())?;
-    supers.tell_invariant();
-    let (none, i31, any) = (HeapType::None, HeapType::I31, HeapType::Any);
-    assert!(rt; laws::heap_reflexive(&supers, &i31));
-    assert!(rt; laws::heap_transitive(&supers, &none, &i31, &any).first_third);
-    assert!(rt; laws::heap_bounded(&supers, &i31).below_top);
-    assert!(rt; !laws::heap_equal(&supers, &i31, &any));
-    assert!(rt; laws::ref_reflexive(&supers, &RefType::EQREF));
-    let three = laws::ref_transitive(
-        &supers,
-        &RefType::NULLREF,
-        &RefType::EQREF,
-        &RefType::ANYREF,
-    );
-    assert!(rt; three.first_third);
-    assert!(rt; laws::ref_equal(&supers, &RefType::EQREF, &RefType::EQREF));
-    assert!(rt; !laws::val_equal(&supers, &ValType::EQREF, &ValType::ANYREF));
-    assert!(rt; !laws::storage_equal(&supers, &StorageType::I8, &StorageType::I16));
-    let field = FieldType::new(Mutability::Const, StorageType::I8);
-    assert!(rt; laws::field_equal(&supers, &field, &field));
-    assert!(rt; laws::nullable_covariant(&supers, &i31, &any).to_nullable);
+    assert_eq!(rt; FieldType::from_wasm(1, &data), field);
     Ok(())
 }

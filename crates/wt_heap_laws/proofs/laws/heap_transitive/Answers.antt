@@ -1,6 +1,6 @@
 -- Matches of heap types follow on each other.
-use Rattle.wt_heap.proofs.ChainedMatches.{heap-chained}
-use Rattle.wt_heap.proofs.laws.heap_transitive.Goals as goal
+use Rattle.wt_heap_laws.proofs.ChainedMatches.{heap-chained}
+use Rattle.wt_heap_laws.proofs.laws.heap_transitive.Goals as goal
 
 pub returns-clause-law : goal.returns-clause-law
 returns-clause-law g c =

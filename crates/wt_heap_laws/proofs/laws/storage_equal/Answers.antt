@@ -6,8 +6,8 @@ use Rattle.wt_tree.proofs.TreeEquality.{both}
 use Rattle.wt_heap.specs.declared.storage_type.StorageType.{StorageType}
 use Rattle.wt_heap.specs.Matches.{storage_matches, both_ways}
 use Rattle.wt_heap.specs.ToWasm.{storage_to_wasm}
-use Rattle.wt_heap.proofs.EqualTypes.{storage-same}
-use Rattle.wt_heap.proofs.laws.storage_equal.Goals as goal
+use Rattle.wt_heap_laws.proofs.EqualTypes.{storage-same}
+use Rattle.wt_heap_laws.proofs.laws.storage_equal.Goals as goal
 
 pub returns-clause-law : goal.returns-clause-law
 returns-clause-law g c =

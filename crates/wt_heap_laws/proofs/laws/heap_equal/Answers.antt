@@ -6,8 +6,8 @@ use Rattle.wt_tree.proofs.TreeEquality.{both}
 use Rattle.wt_heap.specs.declared.heap_type.HeapType.{HeapType}
 use Rattle.wt_heap.specs.Matches.{heap_matches, both_ways}
 use Rattle.wt_heap.specs.ToWasm.{heap_to_wasm}
-use Rattle.wt_heap.proofs.EqualTypes.{heap-same}
-use Rattle.wt_heap.proofs.laws.heap_equal.Goals as goal
+use Rattle.wt_heap_laws.proofs.EqualTypes.{heap-same}
+use Rattle.wt_heap_laws.proofs.laws.heap_equal.Goals as goal
 
 pub returns-clause-law : goal.returns-clause-law
 returns-clause-law g c =

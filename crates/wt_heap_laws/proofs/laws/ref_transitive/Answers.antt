@@ -1,6 +1,6 @@
 -- Matches of reference types follow on each other.
-use Rattle.wt_heap.proofs.ChainedMatches.{ref-chained}
-use Rattle.wt_heap.proofs.laws.ref_transitive.Goals as goal
+use Rattle.wt_heap_laws.proofs.ChainedMatches.{ref-chained}
+use Rattle.wt_heap_laws.proofs.laws.ref_transitive.Goals as goal
 
 pub returns-clause-law : goal.returns-clause-law
 returns-clause-law g c =

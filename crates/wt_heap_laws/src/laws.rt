@@ -1,5 +1,5 @@
-//! Laws of matching: facts that follow for whatever knows closed trees by index, each carried by the calls that it is
-//! about.
+//! Laws of matching, and of type data: facts that follow for whatever knows closed trees by index, each carried by the
+//! calls that it is about.
 
 ghost use Rattle.std.specs.Prelude.{◌≡◌, ◌↔◌, IsTrue, IsFalse};
 ghost use Rattle.wt_tree.specs.Subtyping.{IsTypeMap};
@@ -7,11 +7,11 @@ ghost use Rattle.wt_heap.specs.Engines.{heap_engine, ref_engine, val_engine, sto
 ghost use Rattle.wt_heap.specs.Hierarchies.{heap_of_top, heap_of_bottom, hierarchy_top, bottom_under};
 ghost use Rattle.wt_heap.specs.Matches.{HeapIsKnown, RefIsKnown, ValIsKnown, StorageIsKnown, FieldIsKnown, heap_matches, ref_matches, val_matches, storage_matches, field_matches, both_ways};
 
-use crate::field_type::FieldType;
-use crate::heap_type::HeapType;
-use crate::ref_type::RefType;
-use crate::storage_type::StorageType;
-use crate::val_type::ValType;
+use wt_heap::field_type::FieldType;
+use wt_heap::heap_type::HeapType;
+use wt_heap::ref_type::RefType;
+use wt_heap::storage_type::StorageType;
+use wt_heap::val_type::ValType;
 use wt_tree::laws::ThreeAnswers;
 use wt_tree::supers::Supers;
 

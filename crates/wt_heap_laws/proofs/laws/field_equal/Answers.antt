@@ -6,8 +6,8 @@ use Rattle.wt_tree.proofs.TreeEquality.{both}
 use Rattle.wt_heap.specs.declared.field_type.FieldType.{FieldType}
 use Rattle.wt_heap.specs.Matches.{field_matches, both_ways}
 use Rattle.wt_heap.specs.ToWasm.{field_to_wasm}
-use Rattle.wt_heap.proofs.EqualTypes.{field-same}
-use Rattle.wt_heap.proofs.laws.field_equal.Goals as goal
+use Rattle.wt_heap_laws.proofs.EqualTypes.{field-same}
+use Rattle.wt_heap_laws.proofs.laws.field_equal.Goals as goal
 
 pub returns-clause-law : goal.returns-clause-law
 returns-clause-law g c =

@@ -6,8 +6,8 @@ use Rattle.wt_tree.proofs.TreeEquality.{both}
 use Rattle.wt_heap.specs.declared.val_type.ValType.{ValType}
 use Rattle.wt_heap.specs.Matches.{val_matches, both_ways}
 use Rattle.wt_heap.specs.ToWasm.{val_to_wasm}
-use Rattle.wt_heap.proofs.EqualTypes.{val-same}
-use Rattle.wt_heap.proofs.laws.val_equal.Goals as goal
+use Rattle.wt_heap_laws.proofs.EqualTypes.{val-same}
+use Rattle.wt_heap_laws.proofs.laws.val_equal.Goals as goal
 
 pub returns-clause-law : goal.returns-clause-law
 returns-clause-law g c =

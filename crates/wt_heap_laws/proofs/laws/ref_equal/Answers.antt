@@ -6,8 +6,8 @@ use Rattle.wt_tree.proofs.TreeEquality.{both}
 use Rattle.wt_heap.specs.declared.ref_type.RefType.{RefType}
 use Rattle.wt_heap.specs.Matches.{ref_matches, both_ways}
 use Rattle.wt_heap.specs.ToWasm.{ref_to_wasm}
-use Rattle.wt_heap.proofs.EqualTypes.{ref-same}
-use Rattle.wt_heap.proofs.laws.ref_equal.Goals as goal
+use Rattle.wt_heap_laws.proofs.EqualTypes.{ref-same}
+use Rattle.wt_heap_laws.proofs.laws.ref_equal.Goals as goal
 
 pub returns-clause-law : goal.returns-clause-law
 returns-clause-law g c =

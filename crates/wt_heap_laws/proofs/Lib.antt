@@ -1,0 +1,2 @@
+pub mod ChainedMatches
+pub mod EqualTypes
