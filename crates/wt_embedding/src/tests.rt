@@ -3,6 +3,8 @@
 use super::*;
 use std::test::Fail;
 
+mod imports;
+
 #[test]
 fn the_last_hold_keeps_the_types(rt: HostRuntime) -> Result<(), Fail> {
     let first = VMSharedTypeIndex::new(0);

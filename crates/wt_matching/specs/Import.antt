@@ -1,11 +1,10 @@
 -- When what is given for an import fits it, and else the first cause why not (WebAssembly 3.0, "Matching", "External
 -- Types"; sharing, page sizes and the order of the causes after wasmtime).
-use Rattle.std.specs.Prelude.{ℕ, Bool, true, false, ◌&&◌, ◌||◌, ◌==◌, nat_le, List, [], ◌∷◌, Option, None, Some, Result, Ok, Err, if◌then◌else◌}
+use Rattle.std.specs.Prelude.{ℕ, Bool, true, false, ◌&&◌, ◌||◌, ◌==◌, nat_le, List, [], ◌∷◌, Option, None, Some, Result, Ok, Err}
 use Rattle.std.specs.Bool.{beq}
 use Rattle.wt_env.specs.declared.types.VMSharedTypeIndex.{VMSharedTypeIndex}
 use Rattle.wt_env.specs.declared.types.EngineOrModuleTypeIndex.{EngineOrModuleTypeIndex}
 use Rattle.wt_env.specs.declared.types.EngineOrModuleTypeIndex.TheVariants as index
-use Rattle.wt_env.specs.declared.types.WasmRefType.{WasmRefType}
 use Rattle.wt_env.specs.declared.types.WasmHeapType.{WasmHeapType}
 use Rattle.wt_env.specs.declared.types.WasmValType.{WasmValType}
 use Rattle.wt_env.specs.declared.types.WasmValType.TheVariants as val

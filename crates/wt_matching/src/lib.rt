@@ -3,6 +3,7 @@
 #![tactic(auto)]
 
 pub mod definition;
+pub mod known;
 pub mod laws;
 pub mod matching;
 pub mod show;

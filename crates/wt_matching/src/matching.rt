@@ -1,9 +1,7 @@
 //! When what is given for an import fits it (WebAssembly 3.0, "Matching", "External Types"; sharing, page sizes and the
 //! order of the causes after wasmtime). It rests on `Supers` for the types that indices name. Nothing here takes memory.
 
-ghost use Rattle.std.specs.Prelude.{◌≡◌, ◌&&◌, ◌||◌, ◌==◌, [], ◌∷◌};
-ghost use Rattle.std.specs.Bool.{beq};
-ghost use Rattle.wt_env.specs.declared.types.EngineOrModuleTypeIndex.TheVariants as type_index;
+ghost use Rattle.std.specs.Prelude.{◌≡◌, ◌||◌, [], ◌∷◌};
 ghost use Rattle.wt_tree.specs.Kinds.{kinded_val, indices_of};
 ghost use Rattle.wt_tree.specs.Subtyping.{is_sub};
 ghost use Rattle.wt_tree.specs.Fit.{named_by, IsKnown, AreKnown};

@@ -1,9 +1,8 @@
 -- The value types come first, and then whether the globals can change.
 use Rattle.std.proofs.Common.{rules, ◌≡◌, ◌∙◌, sym, ◌||◌}
-use Rattle.std.specs.Prelude.{Result, Ok, Err}
 use Rattle.std.specs.Bool.{beq}
 use Rattle.wt_matching.specs.declared.unfit.Unfit.TheVariants as unfit
-use Rattle.wt_matching.specs.Import.{answer, unless, first_of, content_unfit}
+use Rattle.wt_matching.specs.Import.{answer, unless, content_unfit}
 use Rattle.wt_matching.proofs.Causes.{first_told, second_told}
 use Rattle.wt_matching.proofs.matching.match_global.Goals as goal
 
