@@ -9,7 +9,7 @@ use Rattle.wt_env.specs.declared.types.WasmSubType.{WasmSubType}
 use Rattle.wt_tree.specs.Subtyping.{engine_index}
 use Rattle.wt_model.specs.Registered.{RegisteredGroup}
 use Rattle.wt_model.specs.Shown.{sub_type_at}
-use Rattle.wt_types.specs.CoreTypes.{function_of}
+use Rattle.wt_core.specs.CoreTypes.{function_of}
 
 -- the text of a shape, where this is the function type of an exception
 abbrev pub shape_text : Option WasmSubType → WasmCompositeInnerType → List ℕ

@@ -1,3 +1,1 @@
-pub mod CoreTypes
-pub mod FromWasm
 pub mod CoreTexts

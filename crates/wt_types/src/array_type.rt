@@ -15,15 +15,15 @@ ghost use Rattle.wt_model.specs.Sound.{IsSound};
 ghost use Rattle.wt_model.specs.Changes.{HoldChanges};
 ghost use Rattle.wt_heap.specs.declared.mutability.Finality.TheVariants as finality;
 ghost use Rattle.wt_heap.specs.Engines.{field_engine, IsOfEngine};
-ghost use Rattle.wt_types.specs.CoreTypes.{array_sub_type, IsOfKind, root_of_kind, finality_of, supertype_at, element_at};
+ghost use Rattle.wt_core.specs.CoreTypes.{array_sub_type, IsOfKind, root_of_kind, finality_of, supertype_at, element_at};
+ghost use Rattle.wt_core.specs.FromWasm.{field_of};
 ghost use Rattle.wt_types.specs.CoreTexts.{text_at};
-ghost use Rattle.wt_types.specs.FromWasm.{field_of};
 
-use crate::core_type::{finality, leads_to, register_type, root_of_kind, sub_type, supertype};
-use crate::iterators::field_of;
 use crate::show::{Shown, show};
-use crate::sub_types::array_sub_type;
 use std::marker::Model;
+use wt_core::core_type::{finality, leads_to, register_type, root_of_kind, sub_type, supertype};
+use wt_core::iterators::field_of;
+use wt_core::sub_types::array_sub_type;
 use wt_env::types::{Kind, VMSharedTypeIndex, WasmCompositeInnerType};
 use wt_heap::field_type::FieldType;
 use wt_heap::mutability::{Finality, Mutability};
@@ -164,7 +164,10 @@ impl ArrayType {
         ensures engine { result.engine ≡ self.now.engine }
         ensures index { result.index ≡ self.now.index }
     {
-        ArrayName::new(self.registered_type.engine(), self.registered_type.index())
+        ArrayName {
+            engine: self.registered_type.engine(),
+            index: self.registered_type.index(),
+        }
     }
 
     /// The number of the engine.
@@ -188,7 +191,10 @@ impl ArrayType {
         ensures { result ≡ option_map (λ index. record { engine = self.now.engine; index = index }) (supertype_at registry.now.made self.now.index) }
     {
         match supertype(&self.registered_type, registry) {
-            Some(index) => Some(ArrayName::new(self.engine(), index)),
+            Some(index) => Some(ArrayName {
+                engine: self.engine(),
+                index,
+            }),
             None => None,
         }
     }

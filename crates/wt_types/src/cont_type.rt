@@ -13,12 +13,12 @@ ghost use Rattle.wt_model.specs.Holds.{IsHeld};
 ghost use Rattle.wt_model.specs.Registration.{host_type, trees_of, registration_refusal, IsRefusal, register};
 ghost use Rattle.wt_model.specs.Sound.{IsSound};
 ghost use Rattle.wt_model.specs.Changes.{HoldChanges};
-ghost use Rattle.wt_types.specs.CoreTypes.{IsOfKind, root_of_kind, finality_of, supertype_at};
+ghost use Rattle.wt_core.specs.CoreTypes.{IsOfKind, root_of_kind, finality_of, supertype_at};
 ghost use Rattle.wt_types.specs.CoreTexts.{text_at};
 
-use crate::core_type::{finality, leads_to, root_of_kind, supertype};
 use crate::show::{Shown, show};
 use std::marker::Model;
+use wt_core::core_type::{finality, leads_to, root_of_kind, supertype};
 use wt_env::types::{Kind, VMSharedTypeIndex};
 use wt_heap::mutability::Finality;
 use wt_heap::names::ContName;
@@ -83,7 +83,10 @@ impl ContType {
         ensures engine { result.engine ≡ self.now.engine }
         ensures index { result.index ≡ self.now.index }
     {
-        ContName::new(self.registered_type.engine(), self.registered_type.index())
+        ContName {
+            engine: self.registered_type.engine(),
+            index: self.registered_type.index(),
+        }
     }
 
     /// The number of the engine.
@@ -107,7 +110,10 @@ impl ContType {
         ensures { result ≡ option_map (λ index. record { engine = self.now.engine; index = index }) (supertype_at registry.now.made self.now.index) }
     {
         match supertype(&self.registered_type, registry) {
-            Some(index) => Some(ContName::new(self.engine(), index)),
+            Some(index) => Some(ContName {
+                engine: self.engine(),
+                index,
+            }),
             None => None,
         }
     }

@@ -4,7 +4,7 @@
 ghost use Rattle.std.specs.Prelude.{◌≡◌, ◌<◌};
 ghost use Rattle.wt_env.specs.declared.types.Kind.TheVariants as kind;
 ghost use Rattle.wt_model.specs.Holds.{IsHeld};
-ghost use Rattle.wt_types.specs.CoreTypes.{IsOfKind};
+ghost use Rattle.wt_core.specs.CoreTypes.{IsOfKind};
 
 use crate::exn_type::ExnType;
 use crate::func_type::FuncType;
@@ -82,7 +82,8 @@ fn a_function_takes_a_struct(rt: HostRuntime) -> Result<(), Fail> {
     assert_eq!(rt; text.as_str(), "(struct (field (mut i8)))");
     assert_eq!(rt; point.fields(&registry).len(), 1);
     let name = point.name();
-    assert_eq!(rt; name, StructName::new(7, VMSharedTypeIndex(0)));
+    assert_eq!(rt; name.engine, 7);
+    assert_eq!(rt; name.index, VMSharedTypeIndex(0));
 
     let func = registered_func(&rt, alloc, &mut registry, &mut party, name);
     let text = format!(in alloc; "{}", func.show(&registry)).expect(&rt, "memory");

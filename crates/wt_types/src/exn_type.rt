@@ -15,19 +15,19 @@ ghost use Rattle.wt_model.specs.HostExceptions.{exception_function};
 ghost use Rattle.wt_model.specs.Registration.{host_type, host_exception, trees_of, registration_refusal, IsRefusal, register, register_exception as exception_registered};
 ghost use Rattle.wt_model.specs.Sound.{IsSound};
 ghost use Rattle.wt_model.specs.Changes.{HoldChanges};
-ghost use Rattle.wt_types.specs.CoreTypes.{tag_sub_type, ValsAreOfEngine, IsOfKind, root_of_kind, finality_of, supertype_at, fields_at, function_at};
+ghost use Rattle.wt_core.specs.CoreTypes.{tag_sub_type, ValsAreOfEngine, IsOfKind, root_of_kind, finality_of, supertype_at, fields_at, function_at};
+ghost use Rattle.wt_core.specs.FromWasm.{field_of};
 ghost use Rattle.wt_types.specs.CoreTexts.{text_at};
-ghost use Rattle.wt_types.specs.FromWasm.{field_of};
 
-use crate::core_type::{
+use crate::show::{Shown, show};
+use std::alloc::Global;
+use std::marker::Model;
+use wt_core::core_type::{
     finality, leads_to, register_exception, register_type, root_of_kind, shared, sub_type,
     supertype,
 };
-use crate::iterators::FieldTypes;
-use crate::show::{Shown, show};
-use crate::sub_types::{all_to_wasm, tag_sub_type};
-use std::alloc::Global;
-use std::marker::Model;
+use wt_core::iterators::FieldTypes;
+use wt_core::sub_types::{all_to_wasm, tag_sub_type};
 use wt_env::memory::OutOfMemory;
 use wt_env::types::{Kind, VMSharedTypeIndex, WasmCompositeInnerType};
 use wt_extern::tag_type::TagType;
@@ -178,7 +178,10 @@ impl ExnType {
         ensures engine { result.engine ≡ self.now.engine }
         ensures index { result.index ≡ self.now.index }
     {
-        ExnName::new(self.registered_type.engine(), self.registered_type.index())
+        ExnName {
+            engine: self.registered_type.engine(),
+            index: self.registered_type.index(),
+        }
     }
 
     /// The number of the engine.
@@ -202,7 +205,10 @@ impl ExnType {
         ensures { result ≡ option_map (λ index. record { engine = self.now.engine; index = index }) (supertype_at registry.now.made self.now.index) }
     {
         match supertype(&self.registered_type, registry) {
-            Some(index) => Some(ExnName::new(self.engine(), index)),
+            Some(index) => Some(ExnName {
+                engine: self.engine(),
+                index,
+            }),
             None => None,
         }
     }
@@ -238,7 +244,10 @@ impl ExnType {
     {
         match &sub_type(&self.registered_type, registry).composite_type {
             WasmCompositeInnerType::Exn(exn) => {
-                TagType::new(FuncName::new(self.engine(), shared(exn.func_ty)))
+                TagType::new(FuncName {
+                    engine: self.engine(),
+                    index: shared(exn.func_ty),
+                })
             }
             _ => unreachable!(),
         }

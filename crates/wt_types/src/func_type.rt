@@ -15,16 +15,16 @@ ghost use Rattle.wt_model.specs.Sound.{IsSound};
 ghost use Rattle.wt_model.specs.Changes.{HoldChanges};
 ghost use Rattle.wt_heap.specs.declared.mutability.Finality.TheVariants as finality;
 ghost use Rattle.wt_heap.specs.Engines.{IsOfEngine};
-ghost use Rattle.wt_types.specs.CoreTypes.{func_sub_type, ValsAreOfEngine, IsOfKind, root_of_kind, finality_of, supertype_at, params_at, results_at};
+ghost use Rattle.wt_core.specs.CoreTypes.{func_sub_type, ValsAreOfEngine, IsOfKind, root_of_kind, finality_of, supertype_at, params_at, results_at};
+ghost use Rattle.wt_core.specs.FromWasm.{val_of};
 ghost use Rattle.wt_types.specs.CoreTexts.{text_at};
-ghost use Rattle.wt_types.specs.FromWasm.{val_of};
 
-use crate::core_type::{finality, register_type, root_of_kind, shapes_fit, sub_type, supertype};
-use crate::iterators::ValTypes;
 use crate::show::{Shown, show};
-use crate::sub_types::func_sub_type;
 use std::alloc::Global;
 use std::marker::Model;
+use wt_core::core_type::{finality, register_type, root_of_kind, shapes_fit, sub_type, supertype};
+use wt_core::iterators::ValTypes;
+use wt_core::sub_types::func_sub_type;
 use wt_env::memory::OutOfMemory;
 use wt_env::types::{Kind, VMSharedTypeIndex, WasmCompositeInnerType};
 use wt_heap::mutability::Finality;
@@ -210,7 +210,10 @@ impl FuncType {
         ensures engine { result.engine ≡ self.now.engine }
         ensures index { result.index ≡ self.now.index }
     {
-        FuncName::new(self.registered_type.engine(), self.registered_type.index())
+        FuncName {
+            engine: self.registered_type.engine(),
+            index: self.registered_type.index(),
+        }
     }
 
     /// The number of the engine.
@@ -234,7 +237,10 @@ impl FuncType {
         ensures { result ≡ option_map (λ index. record { engine = self.now.engine; index = index }) (supertype_at registry.now.made self.now.index) }
     {
         match supertype(&self.registered_type, registry) {
-            Some(index) => Some(FuncName::new(self.engine(), index)),
+            Some(index) => Some(FuncName {
+                engine: self.engine(),
+                index,
+            }),
             None => None,
         }
     }

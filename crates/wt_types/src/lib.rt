@@ -3,20 +3,16 @@
 //! which hold nothing.
 #![tactic(auto)]
 
+pub use wt_core::iterators;
 pub use wt_extern::{extern_type, global_type, memory_refusal, memory_type, table_type, tag_type};
 
-// What the five share,
-mod core_type;
-pub mod iterators;
-pub mod show;
-mod sub_types;
-// and the five.
 pub mod array_type;
 pub mod cont_type;
 #[cfg(test)]
 mod example;
 pub mod exn_type;
 pub mod func_type;
+pub mod show;
 pub mod struct_type;
 #[cfg(test)]
 mod tests;

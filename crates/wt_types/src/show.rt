@@ -7,9 +7,9 @@ ghost use Rattle.wt_env.specs.Texts.{fields_text, sub_type_text};
 ghost use Rattle.wt_model.specs.Holds.{IsHeld};
 ghost use Rattle.wt_types.specs.CoreTexts.{exception_function as function_over, shape_text, text_at};
 
-use crate::core_type::sub_type;
 use std::fmt;
 use std::marker::Model;
+use wt_core::core_type::sub_type;
 use wt_env::types::{
     EngineOrModuleTypeIndex, VMSharedTypeIndex, WasmCompositeInnerType, WasmExnType, WasmFieldType,
     WasmSubType,

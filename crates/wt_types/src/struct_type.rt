@@ -15,16 +15,16 @@ ghost use Rattle.wt_model.specs.Sound.{IsSound};
 ghost use Rattle.wt_model.specs.Changes.{HoldChanges};
 ghost use Rattle.wt_heap.specs.declared.mutability.Finality.TheVariants as finality;
 ghost use Rattle.wt_heap.specs.Engines.{IsOfEngine};
-ghost use Rattle.wt_types.specs.CoreTypes.{struct_sub_type, FieldsAreOfEngine, IsOfKind, root_of_kind, finality_of, supertype_at, fields_at};
+ghost use Rattle.wt_core.specs.CoreTypes.{struct_sub_type, FieldsAreOfEngine, IsOfKind, root_of_kind, finality_of, supertype_at, fields_at};
+ghost use Rattle.wt_core.specs.FromWasm.{field_of};
 ghost use Rattle.wt_types.specs.CoreTexts.{text_at};
-ghost use Rattle.wt_types.specs.FromWasm.{field_of};
 
-use crate::core_type::{finality, leads_to, register_type, root_of_kind, sub_type, supertype};
-use crate::iterators::FieldTypes;
 use crate::show::{Shown, show};
-use crate::sub_types::struct_sub_type;
 use std::alloc::Global;
 use std::marker::Model;
+use wt_core::core_type::{finality, leads_to, register_type, root_of_kind, sub_type, supertype};
+use wt_core::iterators::FieldTypes;
+use wt_core::sub_types::struct_sub_type;
 use wt_env::memory::OutOfMemory;
 use wt_env::types::{Kind, VMSharedTypeIndex, WasmCompositeInnerType};
 use wt_heap::field_type::FieldType;
@@ -177,7 +177,10 @@ impl StructType {
         ensures engine { result.engine ≡ self.now.engine }
         ensures index { result.index ≡ self.now.index }
     {
-        StructName::new(self.registered_type.engine(), self.registered_type.index())
+        StructName {
+            engine: self.registered_type.engine(),
+            index: self.registered_type.index(),
+        }
     }
 
     /// The number of the engine.
@@ -201,7 +204,10 @@ impl StructType {
         ensures { result ≡ option_map (λ index. record { engine = self.now.engine; index = index }) (supertype_at registry.now.made self.now.index) }
     {
         match supertype(&self.registered_type, registry) {
-            Some(index) => Some(StructName::new(self.engine(), index)),
+            Some(index) => Some(StructName {
+                engine: self.engine(),
+                index,
+            }),
             None => None,
         }
     }

@@ -2,6 +2,7 @@
 
 use crate::array_type::ArrayType;
 use crate::exn_type::ExnType;
+use crate::func_type::FuncType;
 use std::test::Fail;
 use wt_env::limits::{Engine, EngineLimits};
 use wt_env::types::VMSharedTypeIndex;
@@ -44,7 +45,26 @@ fn an_exception_is_told(rt: HostRuntime) -> Result<(), Fail> {
         text.as_str(),
         "(exn (type (func (param i32))) (field i32))"
     );
-    assert!(rt; *exn.tag_type(&registry).ty() == FuncName::new(7, VMSharedTypeIndex(0)));
+    let signature = FuncName {
+        engine: 7,
+        index: VMSharedTypeIndex(0),
+    };
+    assert!(rt; *exn.tag_type(&registry).ty() == signature);
+    let mut told = exn.fields(&registry);
+    let field = FieldType::new(Mutability::Const, StorageType::ValType(ValType::I32));
+    assert!(rt; told.next() == Some(field));
+    assert!(rt; told.next().is_none());
+    let tag = exn.tag_type(&registry).ty().index;
+    let func = FuncType::from_shared_type_index(&mut registry, &mut party, tag);
+    match func.expect(&rt, "no limit is passed") {
+        Some(func) => {
+            let mut told = func.params(&registry);
+            assert!(rt; told.next() == Some(ValType::I32));
+            assert!(rt; told.next().is_none());
+            func.into_registered().forget();
+        }
+        None => assert!(rt; false, "an exception has a function type"),
+    }
     exn.into_registered().forget();
     Ok(())
 }

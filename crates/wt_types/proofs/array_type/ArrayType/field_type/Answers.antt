@@ -1,5 +1,5 @@
 -- what is shown has engine indices alone
-use Rattle.wt_types.proofs.EngineParts.{engines-element}
+use Rattle.wt_core.proofs.EngineParts.{engines-element}
 use Rattle.wt_types.proofs.array_type.ArrayType.field_type.Goals as goal
 
 pub field_of-requires : goal.field_of-requires

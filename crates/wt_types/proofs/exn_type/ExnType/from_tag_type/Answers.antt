@@ -4,7 +4,7 @@ use Rattle.wt_env.specs.declared.types.WasmSubType.{WasmSubType}
 use Rattle.wt_heap.specs.declared.names.FuncName.{FuncName}
 use Rattle.wt_model.specs.Registered.{Registry}
 use Rattle.wt_model.specs.Registration.{host_type, registration_refusal, register, IsRefusal}
-use Rattle.wt_types.specs.CoreTypes.{tag_sub_type}
+use Rattle.wt_core.specs.CoreTypes.{tag_sub_type}
 use Rattle.wt_types.proofs.exn_type.ExnType.from_tag_type.Goals as goal
 
 -- the type that was read is that of the tag

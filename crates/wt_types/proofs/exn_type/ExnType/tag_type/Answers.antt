@@ -1,5 +1,5 @@
 -- what is shown has engine indices alone
-use Rattle.wt_types.proofs.EngineParts.{engine-function}
+use Rattle.wt_core.proofs.EngineParts.{engine-function}
 use Rattle.wt_types.proofs.exn_type.ExnType.tag_type.Goals as goal
 
 pub shared-requires : goal.shared-requires

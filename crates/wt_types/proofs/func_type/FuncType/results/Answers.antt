@@ -3,7 +3,7 @@ use Rattle.std.proofs.Common.{List, subst, sym}
 use Rattle.wt_env.specs.declared.types.WasmValType.{WasmValType}
 use Rattle.wt_tree.specs.Kinds.{kinded_vals, indices_of}
 use Rattle.wt_heap.specs.Engines.{AreEngineIndices}
-use Rattle.wt_types.proofs.EngineParts.{engines-results}
+use Rattle.wt_core.proofs.EngineParts.{engines-results}
 use Rattle.wt_types.proofs.func_type.FuncType.results.Goals as goal
 
 pub new-requires : goal.new-requires

@@ -3,7 +3,7 @@ use Rattle.std.proofs.Common.{List, subst, sym}
 use Rattle.wt_env.specs.declared.types.WasmFieldType.{WasmFieldType}
 use Rattle.wt_tree.specs.Kinds.{kinded_fields, indices_of}
 use Rattle.wt_heap.specs.Engines.{AreEngineIndices}
-use Rattle.wt_types.proofs.EngineParts.{engines-fields}
+use Rattle.wt_core.proofs.EngineParts.{engines-fields}
 use Rattle.wt_types.proofs.struct_type.StructType.fields.Goals as goal
 
 pub new-requires : goal.new-requires
