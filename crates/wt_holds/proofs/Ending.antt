@@ -1,5 +1,5 @@
 -- The end of a hold, in the registry that the fields stand for.
-use Rattle.std.proofs.Common.{◌≡◌, ℕ, ◌≤◌, ◌==◌, inl, inr, Bool, true, false, Vec, Global, List, [], ◌∷◌, length, map, Option, Some, None, sym, ap, subst, ◌∙◌, arith}
+use Rattle.std.proofs.Common.{◌≡◌, ℕ, ◌≤◌, ◌==◌, inl, inr, Bool, true, false, List, [], ◌∷◌, length, map, Option, Some, None, sym, ap, subst, ◌∙◌, arith}
 use Rattle.std.proofs.lemmas.Bool.{or_left, or_right}
 use Rattle.wt_env.specs.Limits.{EngineParts}
 use Rattle.wt_keys.specs.declared.entry.RecGroupEntry.{RecGroupEntry}
@@ -44,11 +44,11 @@ held-registered made standings party number numbers held =
 -- ---- what the marks tell
 
 pub told : (groups after : TypeRegistryInner) (keep : ℕ → Bool) (number : ℕ) (answer : Bool)
-    → ((k : ℕ → Bool) → after.marks.items ≡ marked k (made_by after.entries.items) → is_registered (made_by after.entries.items) number ≡ true → answer ≡ k number)
-    → after.entries ≡ groups.entries → after.marks.items ≡ marked keep (made_by groups.entries.items) → is_registered (made_by groups.entries.items) number ≡ true → answer ≡ keep number
+    → ((k : ℕ → Bool) → after.marks.items ≡ marked k (made_by after.entries) → is_registered (made_by after.entries) number ≡ true → answer ≡ k number)
+    → after.entries ≡ groups.entries → after.marks.items ≡ marked keep (made_by groups.entries) → is_registered (made_by groups.entries) number ≡ true → answer ≡ keep number
 told groups after keep number answer tells entries marks registered =
-    tells keep (marks ∙ ap (λ (es : Vec RecGroupEntry Global). marked keep (made_by es.items)) (sym entries))
-    (ap (λ (es : Vec RecGroupEntry Global). is_registered (made_by es.items) number) entries ∙ registered)
+    tells keep (marks ∙ ap (λ (es : List RecGroupEntry). marked keep (made_by es)) (sym entries))
+    (ap (λ (es : List RecGroupEntry). is_registered (made_by es) number) entries ∙ registered)
 
 -- ---- the registry after it
 
@@ -56,7 +56,7 @@ abbrev lessened : TypeRegistryInner → ℕ → ℕ → List GroupHolds
 lessened groups party number = change number (fewer party) (standings_of groups.counts.items)
 
 abbrev still_reached : TypeRegistryInner → ℕ → ℕ → Bool
-still_reached groups party number = is_reached (made_by groups.entries.items) (is_root (lessened groups party number)) number
+still_reached groups party number = is_reached (made_by groups.entries) (is_root (lessened groups party number)) number
 
 -- where the group is still reached
 pub dropped-reached : (engine : EngineParts) (groups after : TypeRegistryInner) (party number : ℕ) → still_reached groups party number ≡ true
@@ -64,7 +64,7 @@ pub dropped-reached : (engine : EngineParts) (groups after : TypeRegistryInner) 
     → drop_hold (registry_at engine groups) party number ≡ (None, registry_at engine after)
 dropped-reached engine groups after party number is entries given standings =
     ap (drop_answered (registry_at engine groups) party number) is
-    ∙ sym (λ i. (None, record { engine = engine; made = made_by (entries i).items; given = given i; standings = standings i }))
+    ∙ sym (λ i. (None, record { engine = engine; made = made_by (entries i); given = given i; standings = standings i }))
 
 -- where it isn't, so that it waits
 pub dropped-waits : (engine : EngineParts) (groups after : TypeRegistryInner) (party number : ℕ) → still_reached groups party number ≡ false
@@ -72,20 +72,20 @@ pub dropped-waits : (engine : EngineParts) (groups after : TypeRegistryInner) (p
     → drop_hold (registry_at engine groups) party number ≡ (Some number, registry_at engine after)
 dropped-waits engine groups after party number is entries given standings =
     ap (drop_answered (registry_at engine groups) party number) is
-    ∙ sym (λ i. (Some number, record { engine = engine; made = made_by (entries i).items; given = given i; standings = standings i }))
+    ∙ sym (λ i. (Some number, record { engine = engine; made = made_by (entries i); given = given i; standings = standings i }))
 
 -- what is kept stays kept
 pub drop-keeps : (engine : EngineParts) (groups after : TypeRegistryInner) (party number : ℕ) (debt : Option ℕ) → AreKept engine groups → 1 ≤ held_at (standings_of groups.counts.items) party number
-    → after.entries ≡ groups.entries → after.given ≡ groups.given → length after.marks.items ≡ length after.entries.items
+    → after.entries ≡ groups.entries → after.given ≡ groups.given → length after.marks.items ≡ length after.entries
     → drop_hold (registry_at engine groups) party number ≡ (debt, registry_at engine after) → AreKept engine after
 drop-keeps engine groups after party number debt kept held entries given marks dropped = record {
-  keys = subst (λ (es : Vec RecGroupEntry Global). AreKeys es.items after.given.numbers) (sym entries)
-      (subst (λ (g : EverRegistered). AreKeys groups.entries.items g.numbers) (sym given) kept.keys);
-  shown = subst (λ (es : Vec RecGroupEntry Global). AreShown es.items) (sym entries) kept.shown;
-  rules = subst (λ (es : Vec RecGroupEntry Global). KeepRules (made_by es.items)) (sym entries) kept.rules;
-  within = subst (λ (es : Vec RecGroupEntry Global). length es.items ≤ engine.limits.groups) (sym entries) kept.within;
-  below = subst (λ (es : Vec RecGroupEntry Global). AreBelow engine.limits.types (made_by es.items)) (sym entries) kept.below;
+  keys = subst (λ (es : List RecGroupEntry). AreKeys es after.given.numbers) (sym entries)
+      (subst (λ (g : EverRegistered). AreKeys groups.entries g.numbers) (sym given) kept.keys);
+  shown = subst (λ (es : List RecGroupEntry). AreShown es) (sym entries) kept.shown;
+  rules = subst (λ (es : List RecGroupEntry). KeepRules (made_by es)) (sym entries) kept.rules;
+  within = subst (λ (es : List RecGroupEntry). length es ≤ engine.limits.groups) (sym entries) kept.within;
+  below = subst (λ (es : List RecGroupEntry). AreBelow engine.limits.types (made_by es)) (sym entries) kept.below;
   marks = marks;
   holds = drop-stands (registry_at engine groups) (registry_at engine after) groups.given.numbers party number debt kept.keys.rising
-      (names_older groups.entries.items groups.given.numbers kept.keys) kept.holds held dropped;
+      (names_older groups.entries groups.given.numbers kept.keys) kept.holds held dropped;
 }

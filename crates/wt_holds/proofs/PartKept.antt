@@ -25,8 +25,8 @@ counted_as engine groups standings = record (registry_at engine groups) { standi
 
 pub part-keeps : (engine : EngineParts) (groups after : TypeRegistryInner) (standings : List GroupHolds) → AreKept engine groups
     → reached_part (counted_as engine groups standings) ≡ registry_at engine after
-    → after.entries.items ≡ kept_entries (reached_in (counted_as engine groups standings)) groups.entries.items
-    → length after.marks.items ≡ length after.entries.items
+    → after.entries ≡ kept_entries (reached_in (counted_as engine groups standings)) groups.entries
+    → length after.marks.items ≡ length after.entries
     → HoldsInvariant engine (reached_part (counted_as engine groups standings)).made (reached_part (counted_as engine groups standings)).standings
     → AreKept engine after
 part-keeps engine groups after standings kept part entries marks stands = record {
@@ -45,7 +45,7 @@ part-keeps engine groups after standings kept part entries marks stands = record
 }
   where
     old : List RecGroupEntry
-    old = groups.entries.items
+    old = groups.entries
 
     keep : ℕ → Bool
     keep = reached_in (counted_as engine groups standings)

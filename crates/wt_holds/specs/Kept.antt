@@ -16,21 +16,21 @@ registry_of engine entries given standings = record { engine = engine; made = ma
 
 -- the registry of an engine that has these groups
 abbrev pub registry_at : EngineParts → TypeRegistryInner → Registry
-registry_at engine groups = registry_of engine groups.entries.items groups.given (standings_of groups.counts.items)
+registry_at engine groups = registry_of engine groups.entries groups.given (standings_of groups.counts.items)
 
 -- what a search of what is reached needs: edges lead to older groups alone, and there is a mark and a count
 -- for each group, in order
 pub record IsReady (groups : TypeRegistryInner) : Type 0 where
-  pub rising : IsRising 0 (made_by groups.entries.items) groups.given.numbers
-  pub names_older : NamesOlder (made_by groups.entries.items)
-  pub numbers : map (λ s. s.number) (standings_of groups.counts.items) ≡ map (λ m. m.number) (made_by groups.entries.items)
-  pub marks : length groups.marks.items ≡ length groups.entries.items
+  pub rising : IsRising 0 (made_by groups.entries) groups.given.numbers
+  pub names_older : NamesOlder (made_by groups.entries)
+  pub numbers : map (λ s. s.number) (standings_of groups.counts.items) ≡ map (λ m. m.number) (made_by groups.entries)
+  pub marks : length groups.marks.items ≡ length groups.entries
 
 pub record AreKept (engine : EngineParts) (groups : TypeRegistryInner) : Type 0 where
-  pub keys : AreKeys groups.entries.items groups.given.numbers
-  pub shown : AreShown groups.entries.items
-  pub rules : KeepRules (made_by groups.entries.items)
-  pub within : length groups.entries.items ≤ engine.limits.groups
-  pub below : AreBelow engine.limits.types (made_by groups.entries.items)
-  pub marks : length groups.marks.items ≡ length groups.entries.items
-  pub holds : HoldsInvariant engine (made_by groups.entries.items) (standings_of groups.counts.items)
+  pub keys : AreKeys groups.entries groups.given.numbers
+  pub shown : AreShown groups.entries
+  pub rules : KeepRules (made_by groups.entries)
+  pub within : length groups.entries ≤ engine.limits.groups
+  pub below : AreBelow engine.limits.types (made_by groups.entries)
+  pub marks : length groups.marks.items ≡ length groups.entries
+  pub holds : HoldsInvariant engine (made_by groups.entries) (standings_of groups.counts.items)

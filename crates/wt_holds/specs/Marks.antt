@@ -1,5 +1,5 @@
 -- Marks beside the groups.
-use Rattle.std.specs.Prelude.{ℕ, List, [], ◌∷◌, map, Bool, false, ◌||◌, ◌&&◌, if◌then◌else◌}
+use Rattle.std.specs.Prelude.{ℕ, List, [], ◌∷◌, map, Bool, false, ◌||◌, ◌&&◌}
 use Rattle.std.specs.List.{filter}
 use Rattle.wt_model.specs.Registered.{RegisteredGroup}
 use Rattle.wt_model.specs.Reach.{leads_to}
@@ -14,12 +14,6 @@ abbrev pub marked_leads : List RegisteredGroup → List Bool → ℕ → Bool
 marked_leads [] marks number = false
 marked_leads (made ∷ rest) [] number = false
 marked_leads (made ∷ rest) (mark ∷ marks) number = (mark && leads_to made number) || marked_leads rest marks number
-
--- those that are marked, in order
-abbrev pub marked_items : {A : Type 0} → List Bool → List A → List A
-marked_items [] items = []
-marked_items (mark ∷ marks) [] = []
-marked_items (mark ∷ marks) (item ∷ items) = if mark then item ∷ marked_items marks items else marked_items marks items
 
 -- the entries of the groups whose numbers pass
 abbrev pub kept_entries : (ℕ → Bool) → List RecGroupEntry → List RecGroupEntry

@@ -2,13 +2,13 @@
 //! registered.
 
 use crate::hold_counts::HoldCounts;
-use wt_keys::entry::RecGroupEntry;
+use wt_keys::entries::RecGroupEntries;
 use wt_model::ever::EverRegistered;
 
 /// The registered groups, from the oldest on, with the counts of their holds in the same order.
 #[derive(Debug, Drop)]
 pub struct TypeRegistryInner {
-    pub entries: Vec<RecGroupEntry>,
+    pub entries: RecGroupEntries,
     pub counts: Vec<HoldCounts>,
     /// A mark for each group, for the time of a search of what is reached: their room is taken when a group
     /// is registered.

@@ -6,7 +6,7 @@ ghost use Rattle.std.specs.Option.{option_to_list};
 ghost use Rattle.wt_keys.specs.Entries.{made_of, made_by};
 ghost use Rattle.wt_model.specs.Reach.{leads_to as has_edge};
 ghost use Rattle.wt_model.specs.Removal.{is_reached};
-ghost use Rattle.wt_holds.specs.Marks.{marked, marked_leads, marked_items};
+ghost use Rattle.wt_holds.specs.Marks.{marked, marked_leads};
 ghost use Rattle.wt_model.specs.Sound.{IsRising, NamesOlder};
 
 use wt_keys::entry::RecGroupEntry;
@@ -68,20 +68,6 @@ pub fn mark_reached(entries: &[RecGroupEntry], marks: &mut [bool])
         if !marks[place] {
             let number = entries[place].number;
             marks[place] = any_leads_to(&entries[place + 1..], &marks[place + 1..], number);
-        }
-    }
-}
-
-/// Takes away what isn't marked.
-pub fn remove_unmarked<T: Drop>(items: &mut Vec<T>, marks: &[bool])
-    requires { length marks.now ≡ length items.old.items }
-    ensures { items.new.items ≡ marked_items marks.now items.old.items }
-{
-    let mut place = marks.len();
-    while 0 < place {
-        place -= 1;
-        if !marks[place] {
-            items.remove(place);
         }
     }
 }

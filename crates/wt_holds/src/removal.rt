@@ -17,8 +17,9 @@ ghost use Rattle.wt_holds.specs.Marks.{kept_entries};
 
 use crate::hold_counts::{HoldCounts, entry_place, has_number, is_held, lose, set_waits, waits};
 use crate::inner::TypeRegistryInner;
-use crate::marking::{mark_reached, remove_unmarked};
+use crate::marking::mark_reached;
 use wt_env::limits::Engine;
+use wt_keys::marking::remove_unmarked;
 use wt_model::swept::Swept;
 
 /// Whether each group is held or waits, in order.
@@ -34,7 +35,7 @@ fn mark_roots(counts: &[HoldCounts], marks: &mut [bool])
 /// Marks the groups that are reached from what is held or waits. It takes no memory.
 fn mark(groups: &mut TypeRegistryInner)
     requires { IsReady groups.old }
-    ensures marks { groups.new.marks.items ≡ marked (is_reached (made_by groups.old.entries.items) (is_root (standings_of groups.old.counts.items))) (made_by groups.old.entries.items) }
+    ensures marks { groups.new.marks.items ≡ marked (is_reached (made_by groups.old.entries) (is_root (standings_of groups.old.counts.items))) (made_by groups.old.entries) }
     ensures entries { groups.new.entries ≡ groups.old.entries }
     ensures counts { groups.new.counts ≡ groups.old.counts }
     ensures given { groups.new.given ≡ groups.old.given }
@@ -46,8 +47,8 @@ fn mark(groups: &mut TypeRegistryInner)
 /// Whether the group with this number is marked.
 fn is_marked(groups: &TypeRegistryInner, number: u64) -> bool
     requires ready { IsReady groups.now }
-    ensures { (keep : ℕ → Bool) → groups.now.marks.items ≡ marked keep (made_by groups.now.entries.items)
-        → held.is_registered (made_by groups.now.entries.items) number ≡ true → result ≡ keep number }
+    ensures { (keep : ℕ → Bool) → groups.now.marks.items ≡ marked keep (made_by groups.now.entries)
+        → held.is_registered (made_by groups.now.entries) number ≡ true → result ≡ keep number }
 {
     match entry_place(groups.entries.as_slice(), number) {
         Some(place) => groups.marks[place],
@@ -59,11 +60,11 @@ fn is_marked(groups: &TypeRegistryInner, number: u64) -> bool
 fn remove_unreached(groups: &mut TypeRegistryInner)
     requires { IsReady groups.old }
     ensures part { (engine : EngineParts) → reached_part (registry_at engine groups.old) ≡ registry_at engine groups.new }
-    ensures entries { groups.new.entries.items ≡ kept_entries (is_reached (made_by groups.old.entries.items) (is_root (standings_of groups.old.counts.items))) groups.old.entries.items }
-    ensures marks { length groups.new.marks.items ≡ length groups.new.entries.items }
+    ensures entries { groups.new.entries ≡ kept_entries (is_reached (made_by groups.old.entries) (is_root (standings_of groups.old.counts.items))) groups.old.entries }
+    ensures marks { length groups.new.marks.items ≡ length groups.new.entries }
 {
     mark(groups);
-    remove_unmarked(&mut groups.entries, groups.marks.as_slice());
+    groups.entries.remove_unmarked(groups.marks.as_slice());
     remove_unmarked(&mut groups.counts, groups.marks.as_slice());
     groups.marks.truncate(groups.entries.len());
 }
@@ -93,16 +94,16 @@ pub fn end_hold(
 
 /// Sweeps the group of a debt: where it waits, it is removed with all that only it reached. It takes no memory.
 pub fn sweep_group(groups: &mut TypeRegistryInner, number: u64) -> Swept
-    requires few { length groups.old.entries.items < 2 ^ 32 }
+    requires few { length groups.old.entries < 2 ^ 32 }
     requires ready { IsReady groups.old }
     ensures swept { (engine : EngineParts) → sweep_debt (registry_at engine groups.old) number ≡ (result, registry_at engine groups.new) }
     ensures kept { (engine : EngineParts) → AreKept engine groups.old → AreKept engine groups.new }
 {
     if waits(groups.counts.as_slice(), number) {
-        let before = groups.entries.as_slice().len();
+        let before = groups.entries.len();
         set_waits(&mut groups.counts, number, false);
         remove_unreached(groups);
-        return Swept::Removed((before - groups.entries.as_slice().len()) as u32);
+        return Swept::Removed((before - groups.entries.len()) as u32);
     }
     if has_number(groups.entries.as_slice(), number) {
         Swept::Kept

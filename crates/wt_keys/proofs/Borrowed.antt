@@ -15,14 +15,9 @@ use Rattle.wt_model.specs.Indices.{place_in, located_here, locate}
 use Rattle.wt_keys.specs.Entries.{made_of, made_by}
 use Rattle.wt_keys.specs.Keys.{AreKeys}
 use Rattle.wt_model.specs.Shown.{shown_index, shown, member_here, shown_at, sub_type_at}
-use Rattle.wt_keys.specs.Keys.{AreShown}
+use Rattle.wt_keys.specs.Keys.{AreShown, shown_in}
 use Rattle.wt_env.proofs.lists.Found.{found_within}
 use Rattle.wt_keys.proofs.ShownIndices.{shown-key}
-
--- what the entry that was found shows
-abbrev pub shown_in : VMSharedTypeIndex → Option RecGroupEntry → Option WasmSubType
-shown_in i None = None
-shown_in i (Some entry) = option_and_then (slice_get entry.runtime_types) (place_in i entry.shared_type_indices)
 
 shown-among : (all : List RecGroupEntry) (top : ℕ) → AreKeys all top → AreShown all → (i : VMSharedTypeIndex) (entries : List RecGroupEntry) → ((e : RecGroupEntry) → Among e entries → Among e all)
     → shown_at (made_by all) (made_by entries) i ≡ shown_in i (find (λ entry. is_some (place_in i entry.shared_type_indices)) entries)

@@ -9,3 +9,4 @@ pub mod ShownIndices
 pub mod Supertypes
 pub mod TrampolineIndices
 pub mod UsedIndices
+pub mod Passes

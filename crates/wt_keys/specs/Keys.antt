@@ -1,5 +1,5 @@
 -- Groups by keys: what is true of the key of each registered group, and of the form in which it is shown.
-use Rattle.std.specs.Prelude.{◌≡◌, ℕ, ◌+◌, ◌<◌, List, length, map, slice_get, Option, Some, None, option_map, unwrap_or}
+use Rattle.std.specs.Prelude.{◌≡◌, ℕ, ◌+◌, ◌<◌, List, length, map, slice_get, Option, Some, None, option_map, option_and_then, unwrap_or}
 use Rattle.std.specs.List.{find}
 use Rattle.wt_env.specs.Equality.{rec_group_eq}
 use Rattle.wt_env.specs.declared.types.VMSharedTypeIndex.{VMSharedTypeIndex}
@@ -15,7 +15,7 @@ use Rattle.wt_env.specs.Among.{Among}
 use Rattle.wt_model.specs.Trees.{trees}
 use Rattle.wt_model.specs.NamedTypes.{NamesTypes}
 use Rattle.wt_model.specs.Trampolines.{TellTrampolines}
-use Rattle.wt_model.specs.Indices.{locate, used, AreUnused, AreDistinct}
+use Rattle.wt_model.specs.Indices.{locate, place_in, used, AreUnused, AreDistinct}
 use Rattle.wt_model.specs.Sound.{IsRising, IsLocated}
 use Rattle.wt_keys.specs.Entries.{made_of, made_by}
 
@@ -91,3 +91,8 @@ own_shown indices (index.RecGroup k) = unwrap_or (option_map index.Engine (slice
 -- the form of an entry's members that is shown has every reference as an index
 abbrev pub AreShown : List RecGroupEntry → Type 0
 AreShown entries = (entry : RecGroupEntry) → Among entry entries → entry.runtime_types ≡ map_group_refs (own_shown entry.shared_type_indices) entry.hash_consing_key.types
+
+-- what an entry shows at the place of an index
+abbrev pub shown_in : VMSharedTypeIndex → Option RecGroupEntry → Option WasmSubType
+shown_in i None = None
+shown_in i (Some entry) = option_and_then (slice_get entry.runtime_types) (place_in i entry.shared_type_indices)

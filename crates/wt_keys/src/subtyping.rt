@@ -8,16 +8,17 @@ ghost use Rattle.wt_model.specs.Subtyping.{is_subtype_index};
 ghost use Rattle.wt_keys.specs.Keys.{AreKeys, AreShown};
 ghost use Rattle.wt_keys.specs.Entries.{made_by};
 
-use crate::entry::RecGroupEntry;
+use crate::entries::RecGroupEntries;
 use crate::search::borrow_joined;
+use std::alloc::Global;
 use std::marker::Model;
 use wt_env::types::{VMSharedTypeIndex, WasmSubType};
 use wt_tree::supers::{Supers, Types, declared_index};
 
 /// The index of the type that a registered type declares as its supertype.
 fn supertype_of(
-    entries: &[RecGroupEntry],
-    added: &[RecGroupEntry],
+    entries: &RecGroupEntries,
+    added: &RecGroupEntries,
     index: VMSharedTypeIndex,
 ) -> Option<VMSharedTypeIndex>
     requires keys { (top : ℕ) × AreKeys (entries.now ++ added.now) top }
@@ -34,8 +35,8 @@ fn supertype_of(
 
 /// Whether zero or more declared supertype steps lead from `sub` to `sup`, both registered.
 fn leads(
-    entries: &[RecGroupEntry],
-    added: &[RecGroupEntry],
+    entries: &RecGroupEntries,
+    added: &RecGroupEntries,
     sub: VMSharedTypeIndex,
     sup: VMSharedTypeIndex,
 ) -> bool
@@ -57,7 +58,8 @@ fn leads(
 
 /// Whether zero or more declared supertype steps lead from `sub` to `sup`, both registered.
 pub fn is_subtype_of(
-    entries: &[RecGroupEntry],
+    alloc: Global,
+    entries: &RecGroupEntries,
     sub: VMSharedTypeIndex,
     sup: VMSharedTypeIndex,
 ) -> bool
@@ -67,14 +69,15 @@ pub fn is_subtype_of(
     requires sup { IsSome (locate (made_by entries.now) sup) }
     ensures { result ≡ is_subtype_index (made_by entries.now) sub sup }
 {
-    leads(entries, &[], sub, sup)
+    let none = RecGroupEntries::new(alloc);
+    leads(entries, &none, sub, sup)
 }
 
 /// Entries as what compares their types by index: those that are registered, and behind them others that are planned.
 #[derive(Drop)]
 pub struct RegisteredTypes<'a> {
-    entries: &'a [RecGroupEntry],
-    added: &'a [RecGroupEntry],
+    entries: &'a RecGroupEntries,
+    added: &'a RecGroupEntries,
 }
 
 impl<'a> Model for RegisteredTypes<'a> {
@@ -91,7 +94,7 @@ impl<'a> Model for RegisteredTypes<'a> {
 
 impl<'a> RegisteredTypes<'a> {
     /// The types of these entries, where those behind are planned on those before.
-    pub fn new(entries: &'a [RecGroupEntry], added: &'a [RecGroupEntry]) -> RegisteredTypes<'a>
+    pub fn new(entries: &'a RecGroupEntries, added: &'a RecGroupEntries) -> RegisteredTypes<'a>
         requires keys { (top : ℕ) × AreKeys (entries.now ++ added.now) top }
         requires shown { AreShown (entries.now ++ added.now) }
         ensures { result ≡ entries.now ++ added.now }

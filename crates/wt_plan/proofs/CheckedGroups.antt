@@ -36,9 +36,9 @@ use Rattle.wt_plan.proofs.RulesKept.{rules-one}
 -- ---- before it is planned
 
 pub group-resolved : (entries : List RecGroupEntry) (plan : PlanFields) (group : WasmRecGroup) (known : List ClosedTree) → AreModuleTypes (group ∷ []) → AreNamed entries plan known
-    → AreResolved (made_by (entries ++ plan.added.items)) (key_of plan group)
+    → AreResolved (made_by (entries ++ plan.added)) (key_of plan group)
 group-resolved entries plan group known only named =
-    let made = made_by (entries ++ plan.added.items) in
+    let made = made_by (entries ++ plan.added) in
     canonical-named made plan.map.items group.types (λ i at. leaving-module (group ∷ []) only group i (inl refl) at) (trees-located made plan.map.items known named)
 
 pub group-slots : (plan : PlanFields) (group : WasmRecGroup) → AreModuleTypes (group ∷ []) → first_disorder (length plan.map.items) group.types ≡ None → KeyNamesTypes (key_of plan group)
@@ -51,16 +51,16 @@ no_more before [] same = refl
 no_more before (x ∷ more) same = let long = length-append before (x ∷ more) in absurd (omega (arith, same, long))
 
 -- what stands then is shown
-pub shown-then : (entries : List RecGroupEntry) (plan after : PlanFields) (types : List WasmSubType) → PlansOne entries plan after types → AreShown (entries ++ plan.added.items) → AreShown (entries ++ after.added.items)
+pub shown-then : (entries : List RecGroupEntry) (plan after : PlanFields) (types : List WasmSubType) → PlansOne entries plan after types → AreShown (entries ++ plan.added) → AreShown (entries ++ after.added)
 shown-then entries plan after types one are =
-    subst AreShown (append_assoc entries plan.added.items one.more ∙ ap (λ (added : List RecGroupEntry). entries ++ added) (sym one.plans.added))
-    (shown-joined (entries ++ plan.added.items) one.more are one.plans.shown)
+    subst AreShown (append_assoc entries plan.added one.more ∙ ap (λ (added : List RecGroupEntry). entries ++ added) (sym one.plans.added))
+    (shown-joined (entries ++ plan.added) one.more are one.plans.shown)
 
-module _ (entries : List RecGroupEntry) (plan after : PlanFields) (group : WasmRecGroup) (only : AreModuleTypes (group ∷ [])) (before : AreKeys (entries ++ plan.added.items) plan.given.numbers) (one : PlansOne entries plan after (key_of plan group)) (keys : AreKeys (entries ++ after.added.items) after.given.numbers) (first_known : List ClosedTree) (first_named : AreNamed entries plan first_known) where
+module _ (entries : List RecGroupEntry) (plan after : PlanFields) (group : WasmRecGroup) (only : AreModuleTypes (group ∷ [])) (before : AreKeys (entries ++ plan.added) plan.given.numbers) (one : PlansOne entries plan after (key_of plan group)) (keys : AreKeys (entries ++ after.added) after.given.numbers) (first_known : List ClosedTree) (first_named : AreNamed entries plan first_known) where
   abbrev made : List RegisteredGroup
-  made = made_by (entries ++ after.added.items)
+  made = made_by (entries ++ after.added)
 
-  resolved : AreResolved (made_by (entries ++ plan.added.items)) (key_of plan group)
+  resolved : AreResolved (made_by (entries ++ plan.added)) (key_of plan group)
   resolved = group-resolved entries plan group first_known only first_named
 
   leaving : (i : EngineOrModuleTypeIndex) → Among i (group_refs group.types) → is_module_index i ≡ true
@@ -74,13 +74,13 @@ module _ (entries : List RecGroupEntry) (plan after : PlanFields) (group : WasmR
       ∙ ap (λ (n : ℕ). length plan.map.items + n) (as_many_types entries plan after group leaving resolved before one keys first_known first_named)
 
   -- a group that was there has types that break no rule
-  pub found-rules : KeepRules (made_by (entries ++ plan.added.items)) → length after.added.items ≡ length plan.added.items → KeepRules made
+  pub found-rules : KeepRules (made_by (entries ++ plan.added)) → length after.added ≡ length plan.added → KeepRules made
   found-rules rules same =
-      let none = no_more plan.added.items one.more (ap length (sym one.plans.added) ∙ same) in
-      let added : after.added.items ≡ plan.added.items = one.plans.added ∙ ap (λ (more : List RecGroupEntry). plan.added.items ++ more) none ∙ append-nil plan.added.items in
+      let none = no_more plan.added one.more (ap length (sym one.plans.added) ∙ same) in
+      let added : after.added ≡ plan.added = one.plans.added ∙ ap (λ (more : List RecGroupEntry). plan.added ++ more) none ∙ append-nil plan.added in
       subst (λ (es : List RecGroupEntry). KeepRules (made_by (entries ++ es))) (sym added) rules
 
-  pub found-told : KeepRules (made_by (entries ++ plan.added.items)) → length after.added.items ≡ length plan.added.items
+  pub found-told : KeepRules (made_by (entries ++ plan.added)) → length after.added ≡ length plan.added
       → (known : List ClosedTree) → AreNamed entries plan known → None ≡ first_misnamed (group_trees known group)
   found-told rules same known named =
       sym (misnamed-none (group_trees known group) (λ t at.
@@ -96,7 +96,7 @@ module _ (entries : List RecGroupEntry) (plan after : PlanFields) (group : WasmR
       ∙ ap (λ (n : ℕ). first_misnamed (map (λ (i : VMSharedTypeIndex). named_by (closed_tree made) (index.Engine i)) (drop n after.map.items))) same
       ∙ ap first_misnamed (behind-named entries plan after group leaving resolved before one keys known named)
 
-  pub new-rules : KeepRules (made_by (entries ++ plan.added.items)) → first_misnamed (group_trees first_known group) ≡ None → KeepRules made
+  pub new-rules : KeepRules (made_by (entries ++ plan.added)) → first_misnamed (group_trees first_known group) ≡ None → KeepRules made
   new-rules rules none =
       rules-one entries plan after (key_of plan group) before keys one rules
       (λ place i is.

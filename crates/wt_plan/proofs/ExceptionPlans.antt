@@ -54,9 +54,9 @@ no_kind false rest is = refl
 
 module _ (entries : List RecGroupEntry) (top : ℕ) (plan : PlanFields) (number : ℕ) (i : VMSharedTypeIndex) (fields : List WasmValType) (keys : AreKeys entries top) (plans : PlansType entries top plan number i)
     (is : is_host_type (closed_tree (made_by entries)) (exception_function fields) ≡ true)
-    (named : closed_tree (made_by (entries ++ plan.added.items)) i ≡ Some (record { tree = tree_of (made_by entries) (exception_function fields ∷ []); place = 0 })) where
+    (named : closed_tree (made_by (entries ++ plan.added)) i ≡ Some (record { tree = tree_of (made_by entries) (exception_function fields ∷ []); place = 0 })) where
   abbrev made : List RegisteredGroup
-  made = made_by (entries ++ plan.added.items)
+  made = made_by (entries ++ plan.added)
 
   abbrev function : WasmSubType
   function = exception_function fields
@@ -72,7 +72,7 @@ module _ (entries : List RecGroupEntry) (top : ℕ) (plan : PlanFields) (number 
       by None e missing = absurd (cc)
       by (Some t) e some =
           let at = closed_tree-located (made_by entries) j t e in
-          ap is_some (closed_tree-grown entries top plan.added.items keys plans.new j at.0 at.1 ∙ e)
+          ap is_some (closed_tree-grown entries top plan.added keys plans.new j at.0 at.1 ∙ e)
   still (index.Module n) here = absurd here
   still (index.RecGroup k) here = absurd here
 
@@ -80,7 +80,7 @@ module _ (entries : List RecGroupEntry) (top : ℕ) (plan : PlanFields) (number 
   resolved = known-resolved (made_by entries) function known
 
   same_tree : tree_of made (function ∷ []) ≡ tree_of (made_by entries) (function ∷ [])
-  same_tree = tree_of-grown entries top plan.added.items keys plans.new (function ∷ []) resolved.0 resolved.1
+  same_tree = tree_of-grown entries top plan.added keys plans.new (function ∷ []) resolved.0 resolved.1
 
   -- the function type is shown
   here : ShowsAt (closed_tree made) i function
@@ -132,25 +132,25 @@ module _ (entries : List RecGroupEntry) (top : ℕ) (plan : PlanFields) (number 
       ∙ (λ k. group (number_group (exception_over (index.Engine i) fields ∷ [])) (outer (function_tree k) 0 (close_outer (trees (made_by entries)) (map (located (made_by entries)) (vals_refs fields)))))
 
   -- edges lead from it to its function type and on
-  module _ (before after : PlanFields) (same : before.added.items ≡ plan.added.items) (all_keys : AreKeys (entries ++ after.added.items) after.given.numbers) (one : PlansOne entries before after (exception_over (index.Engine i) fields ∷ [])) where
+  module _ (before after : PlanFields) (same : before.added ≡ plan.added) (all_keys : AreKeys (entries ++ after.added) after.given.numbers) (one : PlansOne entries before after (exception_over (index.Engine i) fields ∷ [])) where
     abbrev all : List RegisteredGroup
-    all = made_by (entries ++ after.added.items)
+    all = made_by (entries ++ after.added)
 
-    joined : (entries ++ plan.added.items) ++ one.more ≡ entries ++ after.added.items
+    joined : (entries ++ plan.added) ++ one.more ≡ entries ++ after.added
     joined =
-        append_assoc entries plan.added.items one.more
+        append_assoc entries plan.added one.more
         ∙ ap (λ (added : List RecGroupEntry). entries ++ added) (sym (one.plans.added ∙ ap (λ (es : List RecGroupEntry). es ++ one.more) same))
 
     wider : (g : RegisteredGroup) → Among g made → Among g all
     wider g at =
-        let e = among_map made_of (entries ++ plan.added.items) g at in
+        let e = among_map made_of (entries ++ plan.added) g at in
         subst (λ (m : RegisteredGroup). Among m all) (sym e.2)
-        (among_mapped made_of (entries ++ after.added.items) e.0 (subst (Among e.0) joined (among_before (entries ++ plan.added.items) one.more e.0 e.1)))
+        (among_mapped made_of (entries ++ after.added) e.0 (subst (Among e.0) joined (among_before (entries ++ plan.added) one.more e.0 e.1)))
 
     still_at : locate all i ≡ Some (number, 0)
     still_at =
         ap (λ (es : List RecGroupEntry). locate (made_by es) i) (sym joined)
-        ∙ ap (λ (made_then : List RegisteredGroup). locate made_then i) (map-append made_of (entries ++ plan.added.items) one.more)
+        ∙ ap (λ (made_then : List RegisteredGroup). locate made_then i) (map-append made_of (entries ++ plan.added) one.more)
         ∙ locate-before made (made_by one.more) i (number, 0) plans.located
 
     names_function : (outer_refs : List (ℕ × ℕ)) → map (named_at all) (index.Engine i ∷ vals_refs fields) ≡ map Some outer_refs → Among number (map (λ (r : ℕ × ℕ). r.0) outer_refs)
@@ -163,8 +163,8 @@ module _ (entries : List RecGroupEntry) (top : ℕ) (plan : PlanFields) (number 
         (names_function one.entry.outer
         (ap (map (named_at all)) (sym (ap group_refs one.group ∙ refs)) ∙ (all_keys.keys one.entry one.stands).names))
 
-    pub exception-leads : (e : RecGroupEntry) → Among e before.added.items → Reach all one.entry.number e.number
+    pub exception-leads : (e : RecGroupEntry) → Among e before.added → Reach all one.entry.number e.number
     exception-leads e at =
         reach_joined all one.entry.number number e.number
-        (reach-led all (made_of one.entry) number (among_mapped made_of (entries ++ after.added.items) one.entry one.stands) (inr edge))
+        (reach-led all (made_of one.entry) number (among_mapped made_of (entries ++ after.added) one.entry one.stands) (inr edge))
         (reach_wider made all wider number e.number (plans.led e (subst (Among e) same at)))

@@ -89,9 +89,9 @@ added-joined entries before first second after same = append_assoc entries (befo
 pub shown-joined : (first second : List RecGroupEntry) → AreShown first → AreShown second → AreShown (first ++ second)
 shown-joined first second one two e there = elim (among_either first second e there) [ inl before ↦ one e before | inr behind ↦ two e behind ]
 
-pub plans-none : (entries : List RecGroupEntry) (before after : PlanFields) → after.added.items ≡ before.added.items → after.given.numbers ≡ before.given.numbers → PlansMore entries before after []
+pub plans-none : (entries : List RecGroupEntry) (before after : PlanFields) → after.added ≡ before.added → after.given.numbers ≡ before.given.numbers → PlansMore entries before after []
 plans-none entries before after added given = record {
-  added = added ∙ sym (append-nil before.added.items);
+  added = added ∙ sym (append-nil before.added);
   new = tt;
   given = omega (arith, given);
   shown = λ e there. absurd there;
@@ -99,20 +99,20 @@ plans-none entries before after added given = record {
 
 pub plans-joined : (entries : List RecGroupEntry) (before middle after : PlanFields) (first second : List RecGroupEntry) → PlansMore entries before middle first → PlansMore entries middle after second → PlansMore entries before after (first ++ second)
 plans-joined entries before middle after first second one two = record {
-  added = two.added ∙ ap (λ (more : List RecGroupEntry). more ++ second) one.added ∙ append_assoc before.added.items first second;
+  added = two.added ∙ ap (λ (more : List RecGroupEntry). more ++ second) one.added ∙ append_assoc before.added first second;
   new =
-      new_keys-append (entries ++ before.added.items) before.given.numbers first second one.new
-      (subst (λ (n : ℕ). AreNewKeys ((entries ++ before.added.items) ++ first) n second) one.given
-      (subst (λ (es : List RecGroupEntry). AreNewKeys es middle.given.numbers second) (ap (λ (more : List RecGroupEntry). entries ++ more) one.added ∙ sym (append_assoc entries before.added.items first)) two.new));
+      new_keys-append (entries ++ before.added) before.given.numbers first second one.new
+      (subst (λ (n : ℕ). AreNewKeys ((entries ++ before.added) ++ first) n second) one.given
+      (subst (λ (es : List RecGroupEntry). AreNewKeys es middle.given.numbers second) (ap (λ (more : List RecGroupEntry). entries ++ more) one.added ∙ sym (append_assoc entries before.added first)) two.new));
   given = let a = one.given in let b = two.given in let long = length-append first second in omega (arith, a, b, long);
   shown = shown-joined first second one.shown two.shown;
 }
 
 -- what is true of all entries stays true
-pub plans-keys : (entries : List RecGroupEntry) (before after : PlanFields) (more : List RecGroupEntry) → AreKeys (entries ++ before.added.items) before.given.numbers → PlansMore entries before after more
-    → AreKeys (entries ++ after.added.items) after.given.numbers
+pub plans-keys : (entries : List RecGroupEntry) (before after : PlanFields) (more : List RecGroupEntry) → AreKeys (entries ++ before.added) before.given.numbers → PlansMore entries before after more
+    → AreKeys (entries ++ after.added) after.given.numbers
 plans-keys entries before after more keys plans =
-    let all = new_keys-all (entries ++ before.added.items) before.given.numbers more keys plans.new in
-    let joined : (entries ++ before.added.items) ++ more ≡ entries ++ after.added.items =
-    append_assoc entries before.added.items more ∙ ap (λ (added : List RecGroupEntry). entries ++ added) (sym plans.added) in
-    subst (λ (n : ℕ). AreKeys (entries ++ after.added.items) n) (sym plans.given) (subst (λ (es : List RecGroupEntry). AreKeys es (before.given.numbers + length more)) joined all)
+    let all = new_keys-all (entries ++ before.added) before.given.numbers more keys plans.new in
+    let joined : (entries ++ before.added) ++ more ≡ entries ++ after.added =
+    append_assoc entries before.added more ∙ ap (λ (added : List RecGroupEntry). entries ++ added) (sym plans.added) in
+    subst (λ (n : ℕ). AreKeys (entries ++ after.added) n) (sym plans.given) (subst (λ (es : List RecGroupEntry). AreKeys es (before.given.numbers + length more)) joined all)

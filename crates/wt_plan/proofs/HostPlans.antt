@@ -37,19 +37,19 @@ sole (x ∷ (y ∷ rest)) one = absurd (omega (arith, one))
 
 -- what was planned before it, where nothing occurs
 pub record PlansNothing (entries : List RecGroupEntry) (top : ℕ) (plan : PlanFields) : Type 0 where
-  pub keys : AreKeys (entries ++ plan.added.items) plan.given.numbers
-  pub new : AreNewKeys entries top plan.added.items
-  pub given : plan.given.numbers ≡ top + length plan.added.items
-  pub shown : AreShown plan.added.items
-  pub below : AreNewBelow entries plan.added.items
-  pub rules : KeepRules (made_by (entries ++ plan.added.items))
+  pub keys : AreKeys (entries ++ plan.added) plan.given.numbers
+  pub new : AreNewKeys entries top plan.added
+  pub given : plan.given.numbers ≡ top + length plan.added
+  pub shown : AreShown plan.added
+  pub below : AreNewBelow entries plan.added
+  pub rules : KeepRules (made_by (entries ++ plan.added))
   pub numbers : plan.numbers.items ≡ []
   pub map : plan.map.items ≡ []
 
-module _ (entries : List RecGroupEntry) (top : ℕ) (before after : PlanFields) (ty : WasmSubType) (nothing : PlansNothing entries top before) (keys : AreKeys (entries ++ after.added.items) after.given.numbers) (one : PlansOne entries before after (ty ∷ []))
-    (is : is_host_type (closed_tree (made_by (entries ++ before.added.items))) ty ≡ true) (kept : host_breach (closed_tree (made_by (entries ++ before.added.items))) ty ≡ None) where
+module _ (entries : List RecGroupEntry) (top : ℕ) (before after : PlanFields) (ty : WasmSubType) (nothing : PlansNothing entries top before) (keys : AreKeys (entries ++ after.added) after.given.numbers) (one : PlansOne entries before after (ty ∷ []))
+    (is : is_host_type (closed_tree (made_by (entries ++ before.added))) ty ≡ true) (kept : host_breach (closed_tree (made_by (entries ++ before.added))) ty ≡ None) where
   abbrev all : List RecGroupEntry
-  all = entries ++ after.added.items
+  all = entries ++ after.added
 
   count : length one.entry.shared_type_indices ≡ 1
   count = (keys.keys one.entry one.stands).members ∙ ap (λ (ts : List WasmSubType). length ts) one.group
@@ -66,45 +66,45 @@ module _ (entries : List RecGroupEntry) (top : ℕ) (before after : PlanFields) 
   first : slice_get one.entry.shared_type_indices 0 ≡ Some type-index.0
   first = ap (λ (is : List VMSharedTypeIndex). slice_get is 0) type-index.1
 
-  resolved : AreResolved (made_by (entries ++ before.added.items)) (ty ∷ [])
-  resolved = known-resolved (made_by (entries ++ before.added.items)) ty (host-parts (closed_tree (made_by (entries ++ before.added.items))) ty is).known
+  resolved : AreResolved (made_by (entries ++ before.added)) (ty ∷ [])
+  resolved = known-resolved (made_by (entries ++ before.added)) ty (host-parts (closed_tree (made_by (entries ++ before.added))) ty is).known
 
-  joined : (entries ++ before.added.items) ++ one.more ≡ all
-  joined = append_assoc entries before.added.items one.more ∙ ap (λ (added : List RecGroupEntry). entries ++ added) (sym one.plans.added)
+  joined : (entries ++ before.added) ++ one.more ≡ all
+  joined = append_assoc entries before.added one.more ∙ ap (λ (added : List RecGroupEntry). entries ++ added) (sym one.plans.added)
 
   -- it has the closed tree of its key, over what stood before
-  pub type-named : closed_tree (made_by all) type-index.0 ≡ Some (record { tree = tree_of (made_by (entries ++ before.added.items)) (ty ∷ []); place = 0 })
+  pub type-named : closed_tree (made_by all) type-index.0 ≡ Some (record { tree = tree_of (made_by (entries ++ before.added)) (ty ∷ []); place = 0 })
   type-named =
       closed_tree-registered all after.given.numbers one.entry 0 type-index.0 keys one.stands first
       ∙ ap (λ (tree : Tree). Some (record { tree = tree; place = 0 }))
       (tree-of_key all after.given.numbers one.entry keys one.stands
       ∙ ap (tree_of (made_by all)) one.group
       ∙ ap (λ (es : List RecGroupEntry). tree_of (made_by es) (ty ∷ [])) (sym joined)
-      ∙ tree_of-grown (entries ++ before.added.items) before.given.numbers one.more nothing.keys one.plans.new (ty ∷ []) resolved.0 resolved.1)
+      ∙ tree_of-grown (entries ++ before.added) before.given.numbers one.more nothing.keys one.plans.new (ty ∷ []) resolved.0 resolved.1)
 
   -- edges lead to what is new with it
   led_more : (e : RecGroupEntry) → Among e one.more → Reach (made_by all) one.entry.number e.number
   led_more e at = reach-entry all one.entry e.number one.stands (one.led e at)
 
-  pub type-planned : ((e : RecGroupEntry) → Among e before.added.items → Reach (made_by all) one.entry.number e.number) → PlansType entries top after one.entry.number type-index.0
+  pub type-planned : ((e : RecGroupEntry) → Among e before.added → Reach (made_by all) one.entry.number e.number) → PlansType entries top after one.entry.number type-index.0
   type-planned led = record {
     keys = keys;
-    new = subst (AreNewKeys entries top) (sym one.plans.added) (new_keys-append entries top before.added.items one.more nothing.new (subst (λ (n : ℕ). AreNewKeys (entries ++ before.added.items) n one.more) nothing.given one.plans.new));
+    new = subst (AreNewKeys entries top) (sym one.plans.added) (new_keys-append entries top before.added one.more nothing.new (subst (λ (n : ℕ). AreNewKeys (entries ++ before.added) n one.more) nothing.given one.plans.new));
     given =
-        let long = length-append before.added.items one.more in
+        let long = length-append before.added one.more in
         let added = ap (λ (es : List RecGroupEntry). length es) one.plans.added in
         let more = one.plans.given in
         let first = nothing.given in
         omega (arith, long, added, more, first);
-    shown = subst AreShown (sym one.plans.added) (shown-joined before.added.items one.more nothing.shown one.plans.shown);
-    below = subst (AreNewBelow entries) (sym one.plans.added) (new_below-all entries before.added.items before.given.numbers one.more nothing.below one.plans.new);
+    shown = subst AreShown (sym one.plans.added) (shown-joined before.added one.more nothing.shown one.plans.shown);
+    below = subst (AreNewBelow entries) (sym one.plans.added) (new_below-all entries before.added before.given.numbers one.more nothing.below one.plans.new);
     stands = (one.entry, one.stands, refl);
-    led = λ e at. elim (among_either before.added.items one.more e (subst (Among e) one.plans.added at)) [ inl old ↦ led e old | inr new ↦ led_more e new ];
+    led = λ e at. elim (among_either before.added one.more e (subst (Among e) one.plans.added at)) [ inl old ↦ led e old | inr new ↦ led_more e new ];
     located = keys.located (made_of one.entry) 0 type-index.0 (among_mapped made_of all one.entry one.stands) first;
     rules = rules-host entries before after ty nothing.keys keys one is kept nothing.rules;
   }
 
-  pub host-planned : ((e : RecGroupEntry) → Among e before.added.items → Reach (made_by all) one.entry.number e.number) → PlansHost entries top after
+  pub host-planned : ((e : RecGroupEntry) → Among e before.added → Reach (made_by all) one.entry.number e.number) → PlansHost entries top after
   host-planned led = record {
     number = one.entry.number;
     index = type-index.0;
@@ -113,14 +113,14 @@ module _ (entries : List RecGroupEntry) (top : ℕ) (before after : PlanFields) 
     map = type-map;
   }
 
-  pub host-named : AreNamed entries after (record { tree = tree_of (made_by (entries ++ before.added.items)) (ty ∷ []); place = 0 } ∷ [])
+  pub host-named : AreNamed entries after (record { tree = tree_of (made_by (entries ++ before.added)) (ty ∷ []); place = 0 } ∷ [])
   host-named = ap (map (closed_tree (made_by all))) type-map ∙ ap (λ (found : Option ClosedTree). found ∷ []) type-named
 
 -- nothing is planned yet
-pub plans-nothing : (entries : List RecGroupEntry) (top : ℕ) (plan : PlanFields) → plan.added.items ≡ [] → plan.given.numbers ≡ top → plan.numbers.items ≡ [] → plan.map.items ≡ [] → AreKeys entries top → KeepRules (made_by entries)
+pub plans-nothing : (entries : List RecGroupEntry) (top : ℕ) (plan : PlanFields) → plan.added ≡ [] → plan.given.numbers ≡ top → plan.numbers.items ≡ [] → plan.map.items ≡ [] → AreKeys entries top → KeepRules (made_by entries)
     → PlansNothing entries top plan
 plans-nothing entries top plan added given numbers indices keys rules = record {
-  keys = subst (λ (n : ℕ). AreKeys (entries ++ plan.added.items) n) (sym given) (subst (λ (es : List RecGroupEntry). AreKeys es top) (sym same) keys);
+  keys = subst (λ (n : ℕ). AreKeys (entries ++ plan.added) n) (sym given) (subst (λ (es : List RecGroupEntry). AreKeys es top) (sym same) keys);
   new = subst (AreNewKeys entries top) (sym added) tt;
   given = let none = ap (λ (es : List RecGroupEntry). length es) added in omega (arith, none, given);
   shown = subst AreShown (sym added) (λ e at. absurd at);
@@ -130,7 +130,7 @@ plans-nothing entries top plan added given numbers indices keys rules = record {
   map = indices;
 }
   where
-    same : entries ++ plan.added.items ≡ entries
+    same : entries ++ plan.added ≡ entries
     same = ap (λ (es : List RecGroupEntry). entries ++ es) added ∙ append-nil entries
 
 -- the type alone occurs
@@ -149,10 +149,10 @@ host-occurs entries top plan host =
 
 module _ (entries : List RecGroupEntry) (top : ℕ) where
   -- the same in another plan that has the same groups
-  pub type-regrouped : (plan other : PlanFields) (number : ℕ) (i : VMSharedTypeIndex) → other.added.items ≡ plan.added.items → other.given ≡ plan.given → PlansType entries top plan number i → PlansType entries top other number i
+  pub type-regrouped : (plan other : PlanFields) (number : ℕ) (i : VMSharedTypeIndex) → other.added ≡ plan.added → other.given ≡ plan.given → PlansType entries top plan number i → PlansType entries top other number i
   type-regrouped plan other number i added given plans = record {
     keys =
-        subst (λ (n : ℕ). AreKeys (entries ++ other.added.items) n) (sym (ap (λ (g : EverRegistered). g.numbers) given))
+        subst (λ (n : ℕ). AreKeys (entries ++ other.added) n) (sym (ap (λ (g : EverRegistered). g.numbers) given))
         (subst (λ (es : List RecGroupEntry). AreKeys (entries ++ es) plan.given.numbers) (sym added) plans.keys);
     new = subst (AreNewKeys entries top) (sym added) plans.new;
     given = ap (λ (g : EverRegistered). g.numbers) given ∙ plans.given ∙ ap (λ (es : List RecGroupEntry). top + length es) (sym added);

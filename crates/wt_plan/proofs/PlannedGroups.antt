@@ -42,14 +42,14 @@ pub record EntriesOccur (all added : List RecGroupEntry) (numbers : List ℕ) : 
 
 -- what is true of a plan of the groups so far
 pub record Plans (entries : List RecGroupEntry) (groups : List WasmRecGroup) (first plan : PlanFields) : Type 0 where
-  pub keys : AreKeys (entries ++ plan.added.items) plan.given.numbers
+  pub keys : AreKeys (entries ++ plan.added) plan.given.numbers
   pub planned : plan_groups (plan_of entries first) groups ≡ plan_of entries plan
-  pub shown : AreShown plan.added.items
-  pub below : AreNewBelow entries plan.added.items
-  pub occurs : EntriesOccur (entries ++ plan.added.items) plan.added.items plan.numbers.items
+  pub shown : AreShown plan.added
+  pub below : AreNewBelow entries plan.added
+  pub occurs : EntriesOccur (entries ++ plan.added) plan.added plan.numbers.items
   pub named : AreNamed entries plan (module_trees [] groups)
   pub count : length plan.map.items ≡ total_members groups
-  pub rules : KeepRules (made_by (entries ++ plan.added.items))
+  pub rules : KeepRules (made_by (entries ++ plan.added))
 
 plan_groups-more : (plan : Plan) (groups : List WasmRecGroup) (group : WasmRecGroup) → plan_groups plan (groups ++ group ∷ []) ≡ plan_group (plan_groups plan groups) group
 plan_groups-more plan [] group = refl
@@ -71,15 +71,15 @@ reach-entry all by n at leads = reach-led (made_by all) (made_of by) n (among_ma
     edge (inr told) = inr (among_behind (map (λ (r : ℕ × ℕ). r.0) by.outer) (filter_map (λ (number : Option ℕ). number) by.trampolines) n (told-among n by.trampolines told))
 
 -- what occurs where one more was planned
-pub occurs-more : (entries : List RecGroupEntry) (before after : PlanFields) (types : List WasmSubType) → EntriesOccur (entries ++ before.added.items) before.added.items before.numbers.items → PlansOne entries before after types
-    → EntriesOccur (entries ++ after.added.items) after.added.items after.numbers.items
+pub occurs-more : (entries : List RecGroupEntry) (before after : PlanFields) (types : List WasmSubType) → EntriesOccur (entries ++ before.added) before.added before.numbers.items → PlansOne entries before after types
+    → EntriesOccur (entries ++ after.added) after.added after.numbers.items
 occurs-more entries before after types occurs one = record {
-  every = λ e at. every e (among_either before.added.items one.more e (subst (Among e) one.plans.added at));
+  every = λ e at. every e (among_either before.added one.more e (subst (Among e) one.plans.added at));
   only = λ n at. only n (among_pushed before.numbers.items one.entry.number n (subst (Among n) one.numbers at));
 }
   where
-    wider : (e : RecGroupEntry) → Among e (entries ++ before.added.items) → Among e (entries ++ after.added.items)
-    wider e at = among-grown entries before.added.items one.more after.added.items e one.plans.added at
+    wider : (e : RecGroupEntry) → Among e (entries ++ before.added) → Among e (entries ++ after.added)
+    wider e at = among-grown entries before.added one.more after.added e one.plans.added at
 
     counted : (n : ℕ) → Among n before.numbers.items → Among n after.numbers.items
     counted n at = subst (Among n) (sym one.numbers) (among_before before.numbers.items (one.entry.number ∷ []) n at)
@@ -87,35 +87,35 @@ occurs-more entries before after types occurs one = record {
     own : Among one.entry.number after.numbers.items
     own = subst (Among one.entry.number) (sym one.numbers) (among_last before.numbers.items one.entry.number)
 
-    made_wider : (g : RegisteredGroup) → Among g (made_by (entries ++ before.added.items)) → Among g (made_by (entries ++ after.added.items))
+    made_wider : (g : RegisteredGroup) → Among g (made_by (entries ++ before.added)) → Among g (made_by (entries ++ after.added))
     made_wider g at =
-        let e = among_map made_of (entries ++ before.added.items) g at in
-        subst (λ (m : RegisteredGroup). Among m (made_by (entries ++ after.added.items))) (sym e.2) (among_mapped made_of (entries ++ after.added.items) e.0 (wider e.0 e.1))
+        let e = among_map made_of (entries ++ before.added) g at in
+        subst (λ (m : RegisteredGroup). Among m (made_by (entries ++ after.added))) (sym e.2) (among_mapped made_of (entries ++ after.added) e.0 (wider e.0 e.1))
 
-    every : (e : RecGroupEntry) → Among e before.added.items ⊎ Among e one.more → (n : ℕ) × Among n after.numbers.items × Reach (made_by (entries ++ after.added.items)) n e.number
+    every : (e : RecGroupEntry) → Among e before.added ⊎ Among e one.more → (n : ℕ) × Among n after.numbers.items × Reach (made_by (entries ++ after.added)) n e.number
     every e (inl old) =
         let was = occurs.every e old in
-        (was.0, counted was.0 was.1, reach_wider (made_by (entries ++ before.added.items)) (made_by (entries ++ after.added.items)) made_wider was.0 e.number was.2)
-    every e (inr new) = (one.entry.number, own, reach-entry (entries ++ after.added.items) one.entry e.number one.stands (one.led e new))
+        (was.0, counted was.0 was.1, reach_wider (made_by (entries ++ before.added)) (made_by (entries ++ after.added)) made_wider was.0 e.number was.2)
+    every e (inr new) = (one.entry.number, own, reach-entry (entries ++ after.added) one.entry e.number one.stands (one.led e new))
 
-    only : (n : ℕ) → Among n before.numbers.items ⊎ (n ≡ one.entry.number) → (entry : RecGroupEntry) × Among entry (entries ++ after.added.items) × (entry.number ≡ n)
+    only : (n : ℕ) → Among n before.numbers.items ⊎ (n ≡ one.entry.number) → (entry : RecGroupEntry) × Among entry (entries ++ after.added) × (entry.number ≡ n)
     only n (inl old) = let was = occurs.only n old in (was.0, wider was.0 was.1, was.2)
     only n (inr same) = (one.entry, one.stands, sym same)
 
 -- the same of the groups
-pub occurs-groups : (entries : List RecGroupEntry) (plan : PlanFields) → EntriesOccur (entries ++ plan.added.items) plan.added.items plan.numbers.items → Occurs (plan_of entries plan)
+pub occurs-groups : (entries : List RecGroupEntry) (plan : PlanFields) → EntriesOccur (entries ++ plan.added) plan.added plan.numbers.items → Occurs (plan_of entries plan)
 occurs-groups entries plan occurs = record {
   every = λ group at.
-      let named = among_map made_of plan.added.items group at in
+      let named = among_map made_of plan.added group at in
       let was = occurs.every named.0 named.1 in (
         was.0,
         was.1,
         subst (λ (made : List RegisteredGroup). Reach made was.0 group.number) (sym (groups_of-joined entries plan))
-            (subst (λ (m : RegisteredGroup). Reach (made_by (entries ++ plan.added.items)) was.0 m.number) (sym named.2) was.2),
+            (subst (λ (m : RegisteredGroup). Reach (made_by (entries ++ plan.added)) was.0 m.number) (sym named.2) was.2),
       );
   only = λ number at.
       let found = occurs.only number at in
-      (made_of found.0, subst (Among (made_of found.0)) (sym (groups_of-joined entries plan)) (among_mapped made_of (entries ++ plan.added.items) found.0 found.1), found.2);
+      (made_of found.0, subst (Among (made_of found.0)) (sym (groups_of-joined entries plan)) (among_mapped made_of (entries ++ plan.added) found.0 found.1), found.2);
 }
 
 -- ---- one more group
@@ -128,8 +128,8 @@ plans-more entries groups first plan after group only plans more = record {
       plan_groups-more (plan_of entries first) groups group
       ∙ ap (λ (p : Plan). plan_group p group) plans.planned
       ∙ more.planned;
-  shown = subst AreShown (sym one.plans.added) (shown-joined plan.added.items one.more plans.shown one.plans.shown);
-  below = subst (AreNewBelow entries) (sym one.plans.added) (new_below-all entries plan.added.items plan.given.numbers one.more plans.below one.plans.new);
+  shown = subst AreShown (sym one.plans.added) (shown-joined plan.added one.more plans.shown one.plans.shown);
+  below = subst (AreNewBelow entries) (sym one.plans.added) (new_below-all entries plan.added plan.given.numbers one.more plans.below one.plans.new);
   occurs = occurs-more entries plan after (key_of plan group) plans.occurs one;
   named =
       all-named entries plan after group (λ i at. leaving-module (group ∷ []) only group i (inl refl) at) (group-resolved entries plan group known only plans.named) plans.keys one more.keys known plans.named
@@ -148,7 +148,7 @@ plans-more entries groups first plan after group only plans more = record {
     known = module_trees [] groups
 
 -- none is planned yet
-pub plans-first : (entries : List RecGroupEntry) (first : PlanFields) → (first.added.items ≡ []) × (first.numbers.items ≡ []) × (first.map.items ≡ []) → AreKeys entries first.given.numbers → KeepRules (made_by entries)
+pub plans-first : (entries : List RecGroupEntry) (first : PlanFields) → (first.added ≡ []) × (first.numbers.items ≡ []) × (first.map.items ≡ []) → AreKeys entries first.given.numbers → KeepRules (made_by entries)
     → Plans entries [] first first
 plans-first entries first empty keys rules = record {
   keys = subst (λ (es : List RecGroupEntry). AreKeys es first.given.numbers) (sym nothing) keys;
@@ -159,12 +159,12 @@ plans-first entries first empty keys rules = record {
     every = λ e at. absurd (subst (Among e) empty.0 at);
     only = λ n at. absurd (subst (Among n) empty.1 at);
   };
-  named = ap (map (closed_tree (made_by (entries ++ first.added.items)))) empty.2;
+  named = ap (map (closed_tree (made_by (entries ++ first.added)))) empty.2;
   count = ap length empty.2;
   rules = subst (λ (es : List RecGroupEntry). KeepRules (made_by es)) (sym nothing) rules;
 }
   where
-    nothing : entries ++ first.added.items ≡ entries
+    nothing : entries ++ first.added ≡ entries
     nothing = ap (λ (added : List RecGroupEntry). entries ++ added) empty.0 ∙ append-nil entries
 
 -- all of them are planned

@@ -68,11 +68,11 @@ own-entry entries top entry member own keys at same = (made_of entry, among_mapp
 
 -- what the search by keys finds is what is planned
 trampoline-by_key : (entries : List RecGroupEntry) (plan : PlanFields) (member : WasmSubType) (key : WasmRecGroup) (found : Option RecGroupEntry) → is_own_trampoline member ≡ true
-    → AreKeys (entries ++ plan.added.items) plan.given.numbers → key.types ≡ member ∷ []
-    → find (λ e. rec_group_eq e.hash_consing_key key) (entries ++ plan.added.items) ≡ found
+    → AreKeys (entries ++ plan.added) plan.given.numbers → key.types ≡ member ∷ []
+    → find (λ e. rec_group_eq e.hash_consing_key key) (entries ++ plan.added) ≡ found
     → plan_trampoline (plan_of entries plan) (Some member) ≡ trampoline_planned (plan_of entries plan) member (option_map made_of found)
 trampoline-by_key entries plan member key found own keys same is =
-    let all = entries ++ plan.added.items in
+    let all = entries ++ plan.added in
     let made = made_by all in
     let alone : key ≡ record { types = member ∷ [] } = λ i. record { types = same i } in
     ap (λ (groups : List RegisteredGroup). trampoline_planned (plan_of entries plan) member (find_tree groups (trampoline_tree member))) (groups_of-joined entries plan)
@@ -84,22 +84,22 @@ trampoline-by_key entries plan member key found own keys same is =
 
 -- it was there
 pub alone-found-planned : (entries : List RecGroupEntry) (plan : PlanFields) (member : WasmSubType) (key : WasmRecGroup) (entry : RecGroupEntry) → is_own_trampoline member ≡ true
-    → AreKeys (entries ++ plan.added.items) plan.given.numbers → key.types ≡ member ∷ []
-    → find (λ e. rec_group_eq e.hash_consing_key key) (entries ++ plan.added.items) ≡ Some entry
+    → AreKeys (entries ++ plan.added) plan.given.numbers → key.types ≡ member ∷ []
+    → find (λ e. rec_group_eq e.hash_consing_key key) (entries ++ plan.added) ≡ Some entry
     → plan_trampoline (plan_of entries plan) (Some member) ≡ plan_of entries plan
 alone-found-planned entries plan member key entry own keys same is = trampoline-by_key entries plan member key (Some entry) own keys same is
 
 pub alone-found : (entries : List RecGroupEntry) (plan : PlanFields) (member : WasmSubType) (key : WasmRecGroup) (entry : RecGroupEntry) → is_own_trampoline member ≡ true
-    → AreKeys (entries ++ plan.added.items) plan.given.numbers → key.types ≡ member ∷ []
-    → find (λ e. rec_group_eq e.hash_consing_key key) (entries ++ plan.added.items) ≡ Some entry
+    → AreKeys (entries ++ plan.added) plan.given.numbers → key.types ≡ member ∷ []
+    → find (λ e. rec_group_eq e.hash_consing_key key) (entries ++ plan.added) ≡ Some entry
     → PlansAlone entries plan plan member entry.number
 alone-found entries plan member key entry own keys same is =
-    let found = find-found (λ (e : RecGroupEntry). rec_group_eq e.hash_consing_key key) (entries ++ plan.added.items) entry is in
+    let found = find-found (λ (e : RecGroupEntry). rec_group_eq e.hash_consing_key key) (entries ++ plan.added) entry is in
     let types = ap (λ (g : WasmRecGroup). g.types) (rec_group_eq-exact entry.hash_consing_key key found.0) ∙ same in
     record {
       more = [];
       plans = plans-none entries plan plan refl refl;
-      is = own-entry (entries ++ plan.added.items) plan.given.numbers entry member own keys found.1 types;
+      is = own-entry (entries ++ plan.added) plan.given.numbers entry member own keys found.1 types;
       led = λ e at. absurd at;
       numbers = refl;
       map = refl;
@@ -107,10 +107,10 @@ alone-found entries plan member key entry own keys same is =
 
 -- it is new
 pub alone-new-planned : (entries : List RecGroupEntry) (plan after : PlanFields) (member : WasmSubType) (key : WasmRecGroup) (entry : RecGroupEntry) → is_own_trampoline member ≡ true
-    → AreKeys (entries ++ plan.added.items) plan.given.numbers → key.types ≡ member ∷ []
-    → find (λ e. rec_group_eq e.hash_consing_key key) (entries ++ plan.added.items) ≡ None
-    → IsNext (entries ++ plan.added.items) plan.given.numbers key.types entry
-    → after.added.items ≡ plan.added.items ++ entry ∷ [] → after.given ≡ given_with plan.given entry
+    → AreKeys (entries ++ plan.added) plan.given.numbers → key.types ≡ member ∷ []
+    → find (λ e. rec_group_eq e.hash_consing_key key) (entries ++ plan.added) ≡ None
+    → IsNext (entries ++ plan.added) plan.given.numbers key.types entry
+    → after.added ≡ plan.added ++ entry ∷ [] → after.given ≡ given_with plan.given entry
     → after.numbers.items ≡ plan.numbers.items → after.map.items ≡ plan.map.items
     → plan_trampoline (plan_of entries plan) (Some member) ≡ plan_of entries after
 alone-new-planned entries plan after member key entry own keys same none is added given numbers map_after =
@@ -120,15 +120,15 @@ alone-new-planned entries plan after member key entry own keys same none is adde
     ∙ added-new entries plan after key.types entry is added given numbers map_after
 
 pub alone-new : (entries : List RecGroupEntry) (plan after : PlanFields) (member : WasmSubType) (entry : RecGroupEntry) → is_own_trampoline member ≡ true
-    → AreKeys (entries ++ after.added.items) after.given.numbers → entry.hash_consing_key.types ≡ member ∷ []
+    → AreKeys (entries ++ after.added) after.given.numbers → entry.hash_consing_key.types ≡ member ∷ []
     → PlansMore entries plan after (entry ∷ []) → after.numbers.items ≡ plan.numbers.items → after.map.items ≡ plan.map.items
     → PlansAlone entries plan after member entry.number
 alone-new entries plan after member entry own keys same plans numbers map_after =
-    let there = subst (λ (added : List RecGroupEntry). Among entry (entries ++ added)) (sym plans.added) (among_behind entries (plan.added.items ++ entry ∷ []) entry (among_last plan.added.items entry)) in
+    let there = subst (λ (added : List RecGroupEntry). Among entry (entries ++ added)) (sym plans.added) (among_behind entries (plan.added ++ entry ∷ []) entry (among_last plan.added entry)) in
     record {
       more = entry ∷ [];
       plans = plans;
-      is = own-entry (entries ++ after.added.items) after.given.numbers entry member own keys there same;
+      is = own-entry (entries ++ after.added) after.given.numbers entry member own keys there same;
       led = λ e at. only e at;
       numbers = numbers;
       map = map_after;
@@ -162,7 +162,7 @@ told-none entries plan = record {
 
 -- ---- those of all members
 
-pub trampolines-none : (entries : List RecGroupEntry) (plan : PlanFields) → AreKeys (entries ++ plan.added.items) plan.given.numbers → PlansTrampolines entries plan plan [] []
+pub trampolines-none : (entries : List RecGroupEntry) (plan : PlanFields) → AreKeys (entries ++ plan.added) plan.given.numbers → PlansTrampolines entries plan plan [] []
 trampolines-none entries plan keys = record {
   planned = refl;
   keys = keys;
@@ -184,7 +184,7 @@ Led e members told = Among (Some e.number) told × (t : WasmSubType) × (m : Was
 
 pub trampolines-more : (entries : List RecGroupEntry) (before middle after : PlanFields) (members : List WasmSubType) (told : List (Option ℕ)) (ty : WasmSubType) (one : Option ℕ)
     → PlansTrampolines entries before middle members told → PlansTold entries middle after (other_trampoline ty) one
-    → plan_trampoline (plan_of entries middle) (other_trampoline ty) ≡ plan_of entries after → AreKeys (entries ++ after.added.items) after.given.numbers
+    → plan_trampoline (plan_of entries middle) (other_trampoline ty) ≡ plan_of entries after → AreKeys (entries ++ after.added) after.given.numbers
     → PlansTrampolines entries before after (members ++ ty ∷ []) (told ++ one ∷ [])
 trampolines-more entries before middle after members told ty one so_far tells step keys = record {
   planned =
@@ -194,19 +194,19 @@ trampolines-more entries before middle after members told ty one so_far tells st
   keys = keys;
   more = so_far.more ++ tells.more;
   plans = plans-joined entries before middle after so_far.more tells.more so_far.plans tells.plans;
-  tell = tell-pushed (made_by (entries ++ after.added.items)) members told ty one still tells.tells;
+  tell = tell-pushed (made_by (entries ++ after.added)) members told ty one still tells.tells;
   led = λ e at. by e (among_either so_far.more tells.more e at);
   numbers = tells.numbers ∙ so_far.numbers;
   map = tells.map ∙ so_far.map;
 }
   where
-    grown : made_by (entries ++ middle.added.items) ++ made_by tells.more ≡ made_by (entries ++ after.added.items)
+    grown : made_by (entries ++ middle.added) ++ made_by tells.more ≡ made_by (entries ++ after.added)
     grown =
-        sym (map-append made_of (entries ++ middle.added.items) tells.more)
-        ∙ ap made_by (append_assoc entries middle.added.items tells.more ∙ ap (λ (added : List RecGroupEntry). entries ++ added) (sym tells.plans.added))
+        sym (map-append made_of (entries ++ middle.added) tells.more)
+        ∙ ap made_by (append_assoc entries middle.added tells.more ∙ ap (λ (added : List RecGroupEntry). entries ++ added) (sym tells.plans.added))
 
-    still : TellTrampolines (made_by (entries ++ after.added.items)) members told
-    still = subst (λ (made : List RegisteredGroup). TellTrampolines made members told) grown (tell-before (made_by (entries ++ middle.added.items)) (made_by tells.more) members told so_far.tell)
+    still : TellTrampolines (made_by (entries ++ after.added)) members told
+    still = subst (λ (made : List RegisteredGroup). TellTrampolines made members told) grown (tell-before (made_by (entries ++ middle.added)) (made_by tells.more) members told so_far.tell)
 
     by : (e : RecGroupEntry) → Among e so_far.more ⊎ Among e tells.more → Led e (members ++ ty ∷ []) (told ++ one ∷ [])
     by e (inl at) =
@@ -224,17 +224,17 @@ find-nothing p (x ∷ xs) fails = rw (fails x (inl refl)) (find-nothing p xs (λ
 
 -- none of the trampolines has the key of the group
 pub still-none : (entries : List RecGroupEntry) (before after : PlanFields) (key : WasmRecGroup) (told : List (Option ℕ)) → PlansTrampolines entries before after key.types told
-    → find (λ e. rec_group_eq e.hash_consing_key key) (entries ++ before.added.items) ≡ None → find (λ e. rec_group_eq e.hash_consing_key key) (entries ++ after.added.items) ≡ None
+    → find (λ e. rec_group_eq e.hash_consing_key key) (entries ++ before.added) ≡ None → find (λ e. rec_group_eq e.hash_consing_key key) (entries ++ after.added) ≡ None
 still-none entries before after key told so_far none =
     ap (find test) (sym grown)
-    ∙ sym (find_second test (entries ++ before.added.items) so_far.more (sym none))
+    ∙ sym (find_second test (entries ++ before.added) so_far.more (sym none))
     ∙ find-nothing test so_far.more (λ e at. false_from_ne_true (test e) (passes e at))
   where
     test : RecGroupEntry → Bool
     test e = rec_group_eq e.hash_consing_key key
 
-    grown : (entries ++ before.added.items) ++ so_far.more ≡ entries ++ after.added.items
-    grown = append_assoc entries before.added.items so_far.more ∙ ap (λ (added : List RecGroupEntry). entries ++ added) (sym so_far.plans.added)
+    grown : (entries ++ before.added) ++ so_far.more ≡ entries ++ after.added
+    grown = append_assoc entries before.added so_far.more ∙ ap (λ (added : List RecGroupEntry). entries ++ added) (sym so_far.plans.added)
 
     only : (t m : WasmSubType) → Among t (m ∷ []) → other_trampoline t ≡ Some m → ⊥
     only t m (inl same) other =
@@ -251,9 +251,9 @@ still-none entries before after key told so_far none =
 
 -- what stands behind them
 pub new-behind : (entries : List RecGroupEntry) (before after : PlanFields) (types : List WasmSubType) (told : List (Option ℕ)) (so_far : PlansTrampolines entries before after types told)
-    → (entries ++ before.added.items) ++ so_far.more ≡ entries ++ after.added.items
+    → (entries ++ before.added) ++ so_far.more ≡ entries ++ after.added
 new-behind entries before after types told so_far =
-    append_assoc entries before.added.items so_far.more ∙ ap (λ (added : List RecGroupEntry). entries ++ added) (sym so_far.plans.added)
+    append_assoc entries before.added so_far.more ∙ ap (λ (added : List RecGroupEntry). entries ++ added) (sym so_far.plans.added)
 
 -- the group leads to each of them that is new
 pub new-led : (entries : List RecGroupEntry) (before middle after : PlanFields) (types : List WasmSubType) (told : List (Option ℕ)) (entry : RecGroupEntry)
@@ -268,7 +268,7 @@ new-led entries before middle after types told entry so_far last key_is same num
   map = map_after;
   stands =
       subst (λ (added : List RecGroupEntry). Among entry (entries ++ added)) (sym last.added)
-      (among_behind entries (middle.added.items ++ entry ∷ []) entry (among_last middle.added.items entry));
+      (among_behind entries (middle.added ++ entry ∷ []) entry (among_last middle.added entry));
   more = so_far.more ++ entry ∷ [];
   plans = plans-joined entries before middle after so_far.more (entry ∷ []) so_far.plans last;
   led = λ e at. by e (among_either so_far.more (entry ∷ []) e at);

@@ -68,16 +68,16 @@ as_many entry plan group members same =
     members ∙ ap length same
     ∙ length-map group.types (map_sub_refs (canonical_index (length plan.map.items) plan.map.items))
 
-module _ (entries : List RecGroupEntry) (plan after : PlanFields) (group : WasmRecGroup) (module_only : (i : EngineOrModuleTypeIndex) → Among i (group_refs group.types) → is_module_index i ≡ true) (resolved : AreResolved (made_by (entries ++ plan.added.items)) (key_of plan group)) (before : AreKeys (entries ++ plan.added.items) plan.given.numbers) (one : PlansOne entries plan after (key_of plan group)) (keys : AreKeys (entries ++ after.added.items) after.given.numbers) (known : List ClosedTree) (named : map (closed_tree (made_by (entries ++ plan.added.items))) plan.map.items ≡ map Some known) where
+module _ (entries : List RecGroupEntry) (plan after : PlanFields) (group : WasmRecGroup) (module_only : (i : EngineOrModuleTypeIndex) → Among i (group_refs group.types) → is_module_index i ≡ true) (resolved : AreResolved (made_by (entries ++ plan.added)) (key_of plan group)) (before : AreKeys (entries ++ plan.added) plan.given.numbers) (one : PlansOne entries plan after (key_of plan group)) (keys : AreKeys (entries ++ after.added) after.given.numbers) (known : List ClosedTree) (named : map (closed_tree (made_by (entries ++ plan.added))) plan.map.items ≡ map Some known) where
   abbrev all : List RecGroupEntry
-  all = entries ++ plan.added.items
+  all = entries ++ plan.added
 
   -- what stands then
   abbrev made : List RegisteredGroup
-  made = made_by (entries ++ after.added.items)
+  made = made_by (entries ++ after.added)
 
-  pub grown : all ++ one.more ≡ entries ++ after.added.items
-  grown = append_assoc entries plan.added.items one.more ∙ ap (λ (added : List RecGroupEntry). entries ++ added) (sym one.plans.added)
+  pub grown : all ++ one.more ≡ entries ++ after.added
+  grown = append_assoc entries plan.added one.more ∙ ap (λ (added : List RecGroupEntry). entries ++ added) (sym one.plans.added)
 
   pub as_many_types : length one.entry.shared_type_indices ≡ length group.types
   as_many_types = as_many one.entry plan group (keys.keys one.entry one.stands).members one.group
@@ -91,7 +91,7 @@ module _ (entries : List RecGroupEntry) (plan after : PlanFields) (group : WasmR
   -- the tree of the entry is that of the module's group
   pub own_tree : trees made one.entry.number ≡ group_tree known group.types
   own_tree =
-      tree-of_key (entries ++ after.added.items) after.given.numbers one.entry keys one.stands
+      tree-of_key (entries ++ after.added) after.given.numbers one.entry keys one.stands
       ∙ ap (tree_of made) one.group
       ∙ ap (λ (es : List RecGroupEntry). tree_of (made_by es) (key_of plan group)) (sym grown)
       ∙ tree_of-grown all plan.given.numbers one.more before one.plans.new (key_of plan group) resolved.0 resolved.1
@@ -99,7 +99,7 @@ module _ (entries : List RecGroupEntry) (plan after : PlanFields) (group : WasmR
 
   pub own_trees : (k : ℕ) (i : VMSharedTypeIndex) → slice_get one.entry.shared_type_indices k ≡ Some i → closed_tree made i ≡ Some (record { tree = group_tree known group.types; place = k })
   own_trees k i is =
-      closed_tree-registered (entries ++ after.added.items) after.given.numbers one.entry k i keys one.stands is
+      closed_tree-registered (entries ++ after.added) after.given.numbers one.entry k i keys one.stands is
       ∙ ap (λ (t : Tree). Some (record { tree = t; place = k })) own_tree
 
   -- the closed trees of the group's types are those of the entry's indices

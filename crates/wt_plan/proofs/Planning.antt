@@ -25,32 +25,27 @@ use Rattle.wt_plan.specs.declared.plan.Plan.{Plan as PlanFields}
 use Rattle.wt_plan.specs.Planned.{AreResolved, plan_of, PlansMore}
 
 -- what is registered after the plan, as one list of entries
-pub groups_of-joined : (entries : List RecGroupEntry) (plan : PlanFields) → groups_of (plan_of entries plan) ≡ made_by (entries ++ plan.added.items)
-groups_of-joined entries plan = sym (map-append made_of entries plan.added.items)
+pub groups_of-joined : (entries : List RecGroupEntry) (plan : PlanFields) → groups_of (plan_of entries plan) ≡ made_by (entries ++ plan.added)
+groups_of-joined entries plan = sym (map-append made_of entries plan.added)
 
 -- what the search by keys finds is what is planned
 planned-by_key : (entries : List RecGroupEntry) (plan : PlanFields) (key : WasmRecGroup) (found : Option RecGroupEntry)
-    → AreKeys (entries ++ plan.added.items) plan.given.numbers → AreResolved (made_by (entries ++ plan.added.items)) key.types
-    → find (λ entry. rec_group_eq entry.hash_consing_key key) (entries ++ plan.added.items) ≡ found
+    → AreKeys (entries ++ plan.added) plan.given.numbers → AreResolved (made_by (entries ++ plan.added)) key.types
+    → find (λ entry. rec_group_eq entry.hash_consing_key key) (entries ++ plan.added) ≡ found
     → plan_key (plan_of entries plan) key.types ≡ planned (plan_of entries plan) key.types (option_map made_of found)
 planned-by_key entries plan key found keys named is =
-    let all = entries ++ plan.added.items in
+    let all = entries ++ plan.added in
     let joined = groups_of-joined entries plan in
     (λ i. planned (plan_of entries plan) key.types (find_tree (joined i) (tree_of (joined i) key.types)))
     ∙ ap (planned (plan_of entries plan) key.types)
     (find_tree-by_key all plan.given.numbers key.types named.0 keys named.1 ∙ ap (option_map made_of) is)
 
--- the search among what stands and what was planned
-pub found_among : (entries added slice : List RecGroupEntry) (key : WasmRecGroup) (found : Option RecGroupEntry) → slice ≡ added → found ≡ find (λ e. rec_group_eq e.hash_consing_key key) (entries ++ slice)
-    → find (λ e. rec_group_eq e.hash_consing_key key) (entries ++ added) ≡ found
-found_among entries added slice key found same is = sym (is ∙ ap (λ (more : List RecGroupEntry). find (λ e. rec_group_eq e.hash_consing_key key) (entries ++ more)) same)
-
 -- ---- a group that is there
 
 pub planned-found : (entries : List RecGroupEntry) (plan after : PlanFields) (key : WasmRecGroup) (entry : RecGroupEntry)
-    → AreKeys (entries ++ plan.added.items) plan.given.numbers → AreResolved (made_by (entries ++ plan.added.items)) key.types
-    → find (λ e. rec_group_eq e.hash_consing_key key) (entries ++ plan.added.items) ≡ Some entry
-    → after.added.items ≡ plan.added.items → after.given ≡ plan.given
+    → AreKeys (entries ++ plan.added) plan.given.numbers → AreResolved (made_by (entries ++ plan.added)) key.types
+    → find (λ e. rec_group_eq e.hash_consing_key key) (entries ++ plan.added) ≡ Some entry
+    → after.added ≡ plan.added → after.given ≡ plan.given
     → after.numbers.items ≡ plan.numbers.items ++ entry.number ∷ [] → after.map.items ≡ plan.map.items ++ entry.shared_type_indices
     → plan_key (plan_of entries plan) key.types ≡ plan_of entries after
 planned-found entries plan after key entry keys named is added given numbers map_after =
@@ -83,9 +78,9 @@ given_with given entry = record {
 }
 
 -- where a new entry and nothing else was added
-pub plans-entry : (entries : List RecGroupEntry) (before after : PlanFields) (entry : RecGroupEntry) → IsNewKey (entries ++ before.added.items) before.given.numbers entry
+pub plans-entry : (entries : List RecGroupEntry) (before after : PlanFields) (entry : RecGroupEntry) → IsNewKey (entries ++ before.added) before.given.numbers entry
     → entry.runtime_types ≡ map_group_refs (own_shown entry.shared_type_indices) entry.hash_consing_key.types
-    → after.added.items ≡ before.added.items ++ entry ∷ [] → after.given ≡ given_with before.given entry → PlansMore entries before after (entry ∷ [])
+    → after.added ≡ before.added ++ entry ∷ [] → after.given ≡ given_with before.given entry → PlansMore entries before after (entry ∷ [])
 plans-entry entries before after entry new shown added given = record {
   added = added;
   new = (new, tt);
@@ -99,7 +94,7 @@ plans-entry entries before after entry new shown added given = record {
 
 -- the new group is that of the entry
 new-made : (entries : List RecGroupEntry) (plan : PlanFields) (types : List WasmSubType) (entry : RecGroupEntry)
-    → IsNext (entries ++ plan.added.items) plan.given.numbers types entry
+    → IsNext (entries ++ plan.added) plan.given.numbers types entry
     → new_group (plan_of entries plan) (describe (groups_of (plan_of entries plan)) types) ≡ made_of entry
 new-made entries plan types entry is =
     let members = length-number_group types in
@@ -114,18 +109,18 @@ new-made entries plan types entry is =
 
 -- where the entry and nothing else was added, its group was
 pub added-new : (entries : List RecGroupEntry) (plan after : PlanFields) (types : List WasmSubType) (entry : RecGroupEntry)
-    → IsNext (entries ++ plan.added.items) plan.given.numbers types entry
-    → after.added.items ≡ plan.added.items ++ entry ∷ [] → after.given ≡ given_with plan.given entry
+    → IsNext (entries ++ plan.added) plan.given.numbers types entry
+    → after.added ≡ plan.added ++ entry ∷ [] → after.given ≡ given_with plan.given entry
     → after.numbers.items ≡ plan.numbers.items → after.map.items ≡ plan.map.items
     → with_added (plan_of entries plan) (new_group (plan_of entries plan) (describe (groups_of (plan_of entries plan)) types)) ≡ plan_of entries after
 added-new entries plan after types entry is added given numbers map_after =
     let new = new-made entries plan types entry is in
-    let made = made_by (entries ++ plan.added.items) in
+    let made = made_by (entries ++ plan.added) in
     let members : length (made_of entry).description.members ≡ length entry.shared_type_indices =
     ap (λ (m : RegisteredGroup). length m.description.members) is
     ∙ length-number_group types ∙ sym (length-assign_shared_type_indices (length types) (used made)) ∙ ap (λ (m : RegisteredGroup). length m.indices) (sym is) in
-    let grown : made_by plan.added.items ++ made_of entry ∷ [] ≡ made_by after.added.items =
-    sym (map-append made_of plan.added.items (entry ∷ [])) ∙ ap made_by (sym added) in
+    let grown : made_by plan.added ++ made_of entry ∷ [] ≡ made_by after.added =
+    sym (map-append made_of plan.added (entry ∷ [])) ∙ ap made_by (sym added) in
     let counted : ever_with plan.given (made_of entry) ≡ after.given =
     (λ i. record { numbers = plan.given.numbers + 1; types = plan.given.types + members i; references = plan.given.references + length (edges (made_of entry)) }) ∙ sym given in
     ap (with_added (plan_of entries plan)) new
@@ -139,8 +134,8 @@ added-new entries plan after types entry is added given numbers map_after =
 
 -- and with one occurrence of it
 pub occurs-new : (entries : List RecGroupEntry) (plan after : PlanFields) (types : List WasmSubType) (entry : RecGroupEntry)
-    → IsNext (entries ++ plan.added.items) plan.given.numbers types entry
-    → after.added.items ≡ plan.added.items ++ entry ∷ [] → after.given ≡ given_with plan.given entry
+    → IsNext (entries ++ plan.added) plan.given.numbers types entry
+    → after.added ≡ plan.added ++ entry ∷ [] → after.given ≡ given_with plan.given entry
     → after.numbers.items ≡ plan.numbers.items ++ entry.number ∷ [] → after.map.items ≡ plan.map.items ++ entry.shared_type_indices
     → with_new (plan_of entries plan) types ≡ plan_of entries after
 occurs-new entries plan after types entry is added given numbers map_after =
@@ -150,7 +145,7 @@ occurs-new entries plan after types entry is added given numbers map_after =
     (λ i. with_occurrence (so_far i) (new i))
     ∙ (λ i. record {
       registered = made_by entries;
-      added = made_by after.added.items;
+      added = made_by after.added;
       given = after.given;
       numbers = (sym numbers) i;
       map = (sym map_after) i;
@@ -158,7 +153,7 @@ occurs-new entries plan after types entry is added given numbers map_after =
 
 -- a group that isn't there comes behind its trampolines
 pub planned-new : (entries : List RecGroupEntry) (plan : PlanFields) (key : WasmRecGroup)
-    → AreKeys (entries ++ plan.added.items) plan.given.numbers → AreResolved (made_by (entries ++ plan.added.items)) key.types
-    → find (λ e. rec_group_eq e.hash_consing_key key) (entries ++ plan.added.items) ≡ None
+    → AreKeys (entries ++ plan.added) plan.given.numbers → AreResolved (made_by (entries ++ plan.added)) key.types
+    → find (λ e. rec_group_eq e.hash_consing_key key) (entries ++ plan.added) ≡ None
     → plan_key (plan_of entries plan) key.types ≡ with_new (plan_trampolines (plan_of entries plan) key.types) key.types
 planned-new entries plan key keys named none = planned-by_key entries plan key None keys named none

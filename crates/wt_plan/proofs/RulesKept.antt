@@ -112,27 +112,27 @@ rules-grown all top more keys new rules own i t is = by (among_either all more s
         ∙ own source.0 (found.0).1 i fresh place
 
 -- the same where one more group was planned, of which no type breaks a rule
-pub rules-one : (entries : List RecGroupEntry) (before after : PlanFields) (types : List WasmSubType) → AreKeys (entries ++ before.added.items) before.given.numbers → AreKeys (entries ++ after.added.items) after.given.numbers
-    → (one : PlansOne entries before after types) → KeepRules (made_by (entries ++ before.added.items))
-    → ((place : ℕ) (i : VMSharedTypeIndex) → slice_get one.entry.shared_type_indices place ≡ Some i → broken_type (record { tree = trees (made_by (entries ++ after.added.items)) one.entry.number; place = place }) ≡ None)
-    → KeepRules (made_by (entries ++ after.added.items))
+pub rules-one : (entries : List RecGroupEntry) (before after : PlanFields) (types : List WasmSubType) → AreKeys (entries ++ before.added) before.given.numbers → AreKeys (entries ++ after.added) after.given.numbers
+    → (one : PlansOne entries before after types) → KeepRules (made_by (entries ++ before.added))
+    → ((place : ℕ) (i : VMSharedTypeIndex) → slice_get one.entry.shared_type_indices place ≡ Some i → broken_type (record { tree = trees (made_by (entries ++ after.added)) one.entry.number; place = place }) ≡ None)
+    → KeepRules (made_by (entries ++ after.added))
 rules-one entries before after types keys keys_after one rules own =
     subst (λ (es : List RecGroupEntry). KeepRules (made_by es)) joined
-    (rules-grown (entries ++ before.added.items) before.given.numbers one.more keys one.plans.new rules
+    (rules-grown (entries ++ before.added) before.given.numbers one.more keys one.plans.new rules
     (λ e place i at is.
     subst (λ (es : List RecGroupEntry). broken_type (record { tree = trees (made_by es) e.number; place = place }) ≡ None) (sym joined) (by e place i at is (one.alone e at))))
   where
-    joined : (entries ++ before.added.items) ++ one.more ≡ entries ++ after.added.items
-    joined = append_assoc entries before.added.items one.more ∙ ap (λ (added : List RecGroupEntry). entries ++ added) (sym one.plans.added)
+    joined : (entries ++ before.added) ++ one.more ≡ entries ++ after.added
+    joined = append_assoc entries before.added one.more ∙ ap (λ (added : List RecGroupEntry). entries ++ added) (sym one.plans.added)
 
     by : (e : RecGroupEntry) (place : ℕ) (i : VMSharedTypeIndex) → Among e one.more → slice_get e.shared_type_indices place ≡ Some i → (e ≡ one.entry) ⊎ IsAlone e
-        → broken_type (record { tree = trees (made_by (entries ++ after.added.items)) e.number; place = place }) ≡ None
+        → broken_type (record { tree = trees (made_by (entries ++ after.added)) e.number; place = place }) ≡ None
     by e place i at is (inl same) =
-        ap (λ (x : RecGroupEntry). broken_type (record { tree = trees (made_by (entries ++ after.added.items)) x.number; place = place })) same
+        ap (λ (x : RecGroupEntry). broken_type (record { tree = trees (made_by (entries ++ after.added)) x.number; place = place })) same
         ∙ own place i (ap (λ (x : RecGroupEntry). slice_get x.shared_type_indices place) (sym same) ∙ is)
     by e place i at is (inr alone) =
-        let stands : Among e (entries ++ after.added.items) = subst (Among e) joined (among_behind (entries ++ before.added.items) one.more e at) in
-        rules-alone (entries ++ after.added.items) after.given.numbers e place keys_after stands alone
+        let stands : Among e (entries ++ after.added) = subst (Among e) joined (among_behind (entries ++ before.added) one.more e at) in
+        rules-alone (entries ++ after.added) after.given.numbers e place keys_after stands alone
 
 -- and where it is that of one type of a host, which breaks nothing
 host-type : (made : List RegisteredGroup) (ty : WasmSubType) (place : ℕ) → is_host_type (closed_tree made) ty ≡ true → host_breach (closed_tree made) ty ≡ None
@@ -142,25 +142,25 @@ host-type made ty zero is none =
     ∙ host-keeps (closed_tree made) ty is none
 host-type made ty (suc place) is none = refl
 
-pub rules-host : (entries : List RecGroupEntry) (before after : PlanFields) (ty : WasmSubType) → AreKeys (entries ++ before.added.items) before.given.numbers → AreKeys (entries ++ after.added.items) after.given.numbers
-    → PlansOne entries before after (ty ∷ []) → is_host_type (closed_tree (made_by (entries ++ before.added.items))) ty ≡ true → host_breach (closed_tree (made_by (entries ++ before.added.items))) ty ≡ None
-    → KeepRules (made_by (entries ++ before.added.items)) → KeepRules (made_by (entries ++ after.added.items))
+pub rules-host : (entries : List RecGroupEntry) (before after : PlanFields) (ty : WasmSubType) → AreKeys (entries ++ before.added) before.given.numbers → AreKeys (entries ++ after.added) after.given.numbers
+    → PlansOne entries before after (ty ∷ []) → is_host_type (closed_tree (made_by (entries ++ before.added))) ty ≡ true → host_breach (closed_tree (made_by (entries ++ before.added))) ty ≡ None
+    → KeepRules (made_by (entries ++ before.added)) → KeepRules (made_by (entries ++ after.added))
 rules-host entries before after ty keys keys_after one is none rules =
     rules-one entries before after (ty ∷ []) keys keys_after one rules
     (λ place i at. ap (λ (t : Tree). broken_type (record { tree = t; place = place })) tree ∙ host-type (made_by all) ty place is none)
   where
     all : List RecGroupEntry
-    all = entries ++ before.added.items
+    all = entries ++ before.added
 
     resolved : AreResolved (made_by all) (ty ∷ [])
     resolved = known-resolved (made_by all) ty (host-parts (closed_tree (made_by all)) ty is).known
 
-    joined : all ++ one.more ≡ entries ++ after.added.items
-    joined = append_assoc entries before.added.items one.more ∙ ap (λ (added : List RecGroupEntry). entries ++ added) (sym one.plans.added)
+    joined : all ++ one.more ≡ entries ++ after.added
+    joined = append_assoc entries before.added one.more ∙ ap (λ (added : List RecGroupEntry). entries ++ added) (sym one.plans.added)
 
-    tree : trees (made_by (entries ++ after.added.items)) one.entry.number ≡ tree_of (made_by all) (ty ∷ [])
+    tree : trees (made_by (entries ++ after.added)) one.entry.number ≡ tree_of (made_by all) (ty ∷ [])
     tree =
-        tree-of_key (entries ++ after.added.items) after.given.numbers one.entry keys_after one.stands
-        ∙ ap (tree_of (made_by (entries ++ after.added.items))) one.group
+        tree-of_key (entries ++ after.added) after.given.numbers one.entry keys_after one.stands
+        ∙ ap (tree_of (made_by (entries ++ after.added))) one.group
         ∙ ap (λ (es : List RecGroupEntry). tree_of (made_by es) (ty ∷ [])) (sym joined)
         ∙ tree_of-grown all before.given.numbers one.more keys one.plans.new (ty ∷ []) resolved.0 resolved.1

@@ -29,7 +29,7 @@ AreResolved made types = (outer : List (ℕ × ℕ)) × ResolvesTo made types ou
 abbrev pub plan_of : List RecGroupEntry → PlanFields → Plan
 plan_of entries plan = record {
   registered = made_by entries;
-  added = made_by plan.added.items;
+  added = made_by plan.added;
   given = plan.given;
   numbers = plan.numbers.items;
   map = plan.map.items;
@@ -48,8 +48,8 @@ AreNewKeys entries top (entry ∷ more) = IsNewKey entries top entry × AreNewKe
 
 -- More entries were planned, and no occurrence.
 pub record PlansMore (entries : List RecGroupEntry) (before after : PlanFields) (more : List RecGroupEntry) : Type 0 where
-  pub added : after.added.items ≡ before.added.items ++ more
-  pub new : AreNewKeys (entries ++ before.added.items) before.given.numbers more
+  pub added : after.added ≡ before.added ++ more
+  pub new : AreNewKeys (entries ++ before.added) before.given.numbers more
   pub given : after.given.numbers ≡ before.given.numbers + length more
   pub shown : AreShown more
 
@@ -57,7 +57,7 @@ pub record PlansMore (entries : List RecGroupEntry) (before after : PlanFields) 
 pub record PlansAlone (entries : List RecGroupEntry) (before after : PlanFields) (member : WasmSubType) (number : ℕ) : Type 0 where
   pub more : List RecGroupEntry
   pub plans : PlansMore entries before after more
-  pub is : IsTrampoline (made_by (entries ++ after.added.items)) member number
+  pub is : IsTrampoline (made_by (entries ++ after.added)) member number
   pub led : (e : RecGroupEntry) → Among e more → (e.number ≡ number) × (e.hash_consing_key.types ≡ member ∷ [])
   pub numbers : after.numbers.items ≡ before.numbers.items
   pub map : after.map.items ≡ before.map.items
@@ -67,7 +67,7 @@ pub record PlansAlone (entries : List RecGroupEntry) (before after : PlanFields)
 pub record PlansTold (entries : List RecGroupEntry) (before after : PlanFields) (member : Option WasmSubType) (told : Option ℕ) : Type 0 where
   pub more : List RecGroupEntry
   pub plans : PlansMore entries before after more
-  pub tells : TellsTrampoline (made_by (entries ++ after.added.items)) member told
+  pub tells : TellsTrampoline (made_by (entries ++ after.added)) member told
   pub led : (e : RecGroupEntry) → Among e more → (told ≡ Some e.number) × (m : WasmSubType) × (member ≡ Some m) × (e.hash_consing_key.types ≡ m ∷ [])
   pub numbers : after.numbers.items ≡ before.numbers.items
   pub map : after.map.items ≡ before.map.items
@@ -75,10 +75,10 @@ pub record PlansTold (entries : List RecGroupEntry) (before after : PlanFields) 
 -- The trampolines of members were planned, and they are told; each that is new is told, and is that of a member.
 pub record PlansTrampolines (entries : List RecGroupEntry) (before after : PlanFields) (members : List WasmSubType) (told : List (Option ℕ)) : Type 0 where
   pub planned : plan_trampolines (plan_of entries before) members ≡ plan_of entries after
-  pub keys : AreKeys (entries ++ after.added.items) after.given.numbers
+  pub keys : AreKeys (entries ++ after.added) after.given.numbers
   pub more : List RecGroupEntry
   pub plans : PlansMore entries before after more
-  pub tell : TellTrampolines (made_by (entries ++ after.added.items)) members told
+  pub tell : TellTrampolines (made_by (entries ++ after.added)) members told
   pub led : (e : RecGroupEntry) → Among e more → Among (Some e.number) told
       × (ty : WasmSubType) × (m : WasmSubType) × Among ty members × (other_trampoline ty ≡ Some m) × (e.hash_consing_key.types ≡ m ∷ [])
   pub numbers : after.numbers.items ≡ before.numbers.items
@@ -95,7 +95,7 @@ pub record PlansOne (entries : List RecGroupEntry) (before after : PlanFields) (
   pub group : entry.hash_consing_key.types ≡ types
   pub numbers : after.numbers.items ≡ before.numbers.items ++ entry.number ∷ []
   pub map : after.map.items ≡ before.map.items ++ entry.shared_type_indices
-  pub stands : Among entry (entries ++ after.added.items)
+  pub stands : Among entry (entries ++ after.added)
   pub more : List RecGroupEntry
   pub plans : PlansMore entries before after more
   pub led : (e : RecGroupEntry) → Among e more → (e.number ≡ entry.number) ⊎ Among (Some e.number) entry.trampolines
@@ -108,25 +108,25 @@ key_of plan group = map_group_refs (canonical_index (length plan.map.items) plan
 -- One more group of a module was planned, and no type breaks a rule on what it names.
 pub record PlansGroup (entries : List RecGroupEntry) (before after : PlanFields) (group : WasmRecGroup) : Type 0 where
   pub planned : plan_group (plan_of entries before) group ≡ plan_of entries after
-  pub keys : AreKeys (entries ++ after.added.items) after.given.numbers
+  pub keys : AreKeys (entries ++ after.added) after.given.numbers
   pub one : PlansOne entries before after (key_of before group)
-  pub rules : KeepRules (made_by (entries ++ after.added.items))
+  pub rules : KeepRules (made_by (entries ++ after.added))
 
 -- the closed trees of the types so far
 abbrev pub AreNamed : List RecGroupEntry → PlanFields → List ClosedTree → Type 0
-AreNamed entries plan known = map (closed_tree (made_by (entries ++ plan.added.items))) plan.map.items ≡ map Some known
+AreNamed entries plan known = map (closed_tree (made_by (entries ++ plan.added))) plan.map.items ≡ map Some known
 
 -- The groups of a module were planned: the groups that are new have keys that no other has, indices of their own, and the
 -- form in which they are shown; each occurs or is a trampoline of one that does; the types have the closed trees that
 -- the module gives them; and no type breaks a rule on what it names.
 pub record PlansModule (entries : List RecGroupEntry) (first plan : PlanFields) (groups : List WasmRecGroup) : Type 0 where
   pub planned : plan_groups (plan_of entries first) groups ≡ plan_of entries plan
-  pub keys : AreKeys (entries ++ plan.added.items) plan.given.numbers
-  pub shown : AreShown plan.added.items
-  pub below : AreNewBelow entries plan.added.items
+  pub keys : AreKeys (entries ++ plan.added) plan.given.numbers
+  pub shown : AreShown plan.added
+  pub below : AreNewBelow entries plan.added
   pub occurs : Occurs (plan_of entries plan)
   pub named : AreNamed entries plan (module_trees [] groups)
-  pub rules : KeepRules (made_by (entries ++ plan.added.items))
+  pub rules : KeepRules (made_by (entries ++ plan.added))
 
 -- ---- one type of a host
 
@@ -138,15 +138,15 @@ nothing_planned entries given = record { registered = made_by entries; added = [
 -- have keys that no other has, indices of their own, and the form in which they are shown; edges lead to each of them from
 -- the type's group, which has this number; the type has this index; and no type breaks a rule on what it names.
 pub record PlansType (entries : List RecGroupEntry) (top : ℕ) (plan : PlanFields) (number : ℕ) (i : VMSharedTypeIndex) : Type 0 where
-  pub keys : AreKeys (entries ++ plan.added.items) plan.given.numbers
-  pub new : AreNewKeys entries top plan.added.items
-  pub given : plan.given.numbers ≡ top + length plan.added.items
-  pub shown : AreShown plan.added.items
-  pub below : AreNewBelow entries plan.added.items
-  pub stands : (entry : RecGroupEntry) × Among entry (entries ++ plan.added.items) × (entry.number ≡ number)
-  pub led : (entry : RecGroupEntry) → Among entry plan.added.items → Reach (made_by (entries ++ plan.added.items)) number entry.number
-  pub located : locate (made_by (entries ++ plan.added.items)) i ≡ Some (number, 0)
-  pub rules : KeepRules (made_by (entries ++ plan.added.items))
+  pub keys : AreKeys (entries ++ plan.added) plan.given.numbers
+  pub new : AreNewKeys entries top plan.added
+  pub given : plan.given.numbers ≡ top + length plan.added
+  pub shown : AreShown plan.added
+  pub below : AreNewBelow entries plan.added
+  pub stands : (entry : RecGroupEntry) × Among entry (entries ++ plan.added) × (entry.number ≡ number)
+  pub led : (entry : RecGroupEntry) → Among entry plan.added → Reach (made_by (entries ++ plan.added)) number entry.number
+  pub located : locate (made_by (entries ++ plan.added)) i ≡ Some (number, 0)
+  pub rules : KeepRules (made_by (entries ++ plan.added))
 
 -- The same, and this type alone occurs.
 pub record PlansHost (entries : List RecGroupEntry) (top : ℕ) (plan : PlanFields) : Type 0 where

@@ -19,21 +19,21 @@ use wt_env::memory::OutOfMemory;
 use wt_env::types::{
     EngineOrModuleTypeIndex, VMSharedTypeIndex, WasmRecGroup, WasmSubType, WasmValType,
 };
-use wt_keys::entry::RecGroupEntry;
+use wt_keys::entries::RecGroupEntries;
 use wt_model::ever::EverRegistered;
 use wt_model::host_exception::{exception_function, exception_over};
 
 /// Plans the group of one type more, whose type indices are those of what stands or was planned.
 fn plan_type(
     alloc: Global,
-    entries: &[RecGroupEntry],
+    entries: &RecGroupEntries,
     plan: &mut Plan,
     ty: WasmSubType,
 ) -> Result<(), OutOfMemory>
-    requires keys { AreKeys (entries.now ++ plan.old.added.items) plan.old.given.numbers }
-    requires host { is_host_type (closed_tree (made_by (entries.now ++ plan.old.added.items))) ty ≡ true }
+    requires keys { AreKeys (entries.now ++ plan.old.added) plan.old.given.numbers }
+    requires host { is_host_type (closed_tree (made_by (entries.now ++ plan.old.added))) ty ≡ true }
     ensures planned { OnOk result (plan_key_of (plan_of entries.now plan.old) (ty ∷ []) ≡ plan_of entries.now plan.new) }
-    ensures keys { OnOk result (AreKeys (entries.now ++ plan.new.added.items) plan.new.given.numbers) }
+    ensures keys { OnOk result (AreKeys (entries.now ++ plan.new.added) plan.new.given.numbers) }
     ensures one { OnOk result (PlansOne entries.now plan.old plan.new (ty ∷ [])) }
 {
     let key = WasmRecGroup::alone(alloc, ty)?;
@@ -43,7 +43,7 @@ fn plan_type(
 /// The plan of one type of a host, which nothing refuses by what it breaks, where so much was registered.
 pub fn plan_host_type(
     alloc: Global,
-    entries: &[RecGroupEntry],
+    entries: &RecGroupEntries,
     given: EverRegistered,
     ty: WasmSubType,
 ) -> Result<Plan, OutOfMemory>
@@ -64,7 +64,7 @@ pub fn plan_host_type(
 fn without_occurrences(alloc: Global, plan: Plan) -> (Plan, VMSharedTypeIndex)
     requires { (i : Shared) × (plan.map.items ≡ i ∷ []) }
     ensures index { plan.map.items ≡ result.1 ∷ [] }
-    ensures added { result.0.added.items ≡ plan.added.items }
+    ensures added { result.0.added ≡ plan.added }
     ensures given { result.0.given ≡ plan.given }
     ensures numbers { result.0.numbers.items ≡ [] }
     ensures map { result.0.map.items ≡ [] }
@@ -88,7 +88,7 @@ fn without_occurrences(alloc: Global, plan: Plan) -> (Plan, VMSharedTypeIndex)
 /// The plan of the function type that takes these, of which nothing occurs yet, and its index.
 fn plan_function(
     alloc: Global,
-    entries: &[RecGroupEntry],
+    entries: &RecGroupEntries,
     given: EverRegistered,
     fields: &[WasmValType],
 ) -> Result<(Plan, VMSharedTypeIndex), OutOfMemory>
@@ -98,7 +98,7 @@ fn plan_function(
     ensures planned { IfOk result (λ told. none_occurs (plan_key_of (nothing_planned entries.now given) (function_over fields.now ∷ [])) ≡ plan_of entries.now told.0) }
     ensures first { IfOk result (λ told. first_index (plan_key_of (nothing_planned entries.now given) (function_over fields.now ∷ [])).map ≡ told.1) }
     ensures plans { IfOk result (λ told. (number : ℕ) × PlansType entries.now given.numbers told.0 number told.1) }
-    ensures named { IfOk result (λ told. closed_tree (made_by (entries.now ++ told.0.added.items)) told.1
+    ensures named { IfOk result (λ told. closed_tree (made_by (entries.now ++ told.0.added)) told.1
         ≡ Some (record { tree = tree_of (made_by entries.now) (function_over fields.now ∷ []); place = 0 })) }
 {
     let function = exception_function(alloc, fields)?;
@@ -109,7 +109,7 @@ fn plan_function(
 /// The plan of the exception of a host that holds these, behind its function type, where so much was registered.
 pub fn plan_exception(
     alloc: Global,
-    entries: &[RecGroupEntry],
+    entries: &RecGroupEntries,
     given: EverRegistered,
     fields: &[WasmValType],
 ) -> Result<Plan, OutOfMemory>

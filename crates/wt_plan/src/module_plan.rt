@@ -17,7 +17,7 @@ use crate::plan::{Plan, plan_key};
 use std::alloc::Global;
 use wt_env::memory::OutOfMemory;
 use wt_env::types::WasmRecGroup;
-use wt_keys::entry::RecGroupEntry;
+use wt_keys::entries::RecGroupEntries;
 use wt_keys::subtyping::RegisteredTypes;
 use wt_rules::place::{Place, Rule};
 use wt_rules::rules::first_disorder;
@@ -27,17 +27,17 @@ use wt_tree::map_refs::canonical_group;
 /// Plans one more group of a module, whose types count from behind those so far.
 fn plan_group(
     alloc: Global,
-    entries: &[RecGroupEntry],
+    entries: &RecGroupEntries,
     plan: &mut Plan,
     start: u32,
     group: &WasmRecGroup,
 ) -> Result<(), OutOfMemory>
     requires start { start ≡ length plan.old.map.items }
-    requires keys { AreKeys (entries.now ++ plan.old.added.items) plan.old.given.numbers }
-    requires named { AreResolved (made_by (entries.now ++ plan.old.added.items)) (key_of plan.old group.now) }
+    requires keys { AreKeys (entries.now ++ plan.old.added) plan.old.given.numbers }
+    requires named { AreResolved (made_by (entries.now ++ plan.old.added)) (key_of plan.old group.now) }
     requires slots { KeyNamesTypes (key_of plan.old group.now) }
     ensures ok { OnOk result (plan_group_of (plan_of entries.now plan.old) group.now ≡ plan_of entries.now plan.new) }
-    ensures keys { OnOk result (AreKeys (entries.now ++ plan.new.added.items) plan.new.given.numbers) }
+    ensures keys { OnOk result (AreKeys (entries.now ++ plan.new.added) plan.new.given.numbers) }
     ensures one { OnOk result (PlansOne entries.now plan.old plan.new (key_of plan.old group.now)) }
 {
     let types = canonical_group(alloc, start, plan.map.as_slice(), group.types.as_slice())?;
@@ -45,14 +45,14 @@ fn plan_group(
 }
 
 /// The first of the types from this place of the plan on that breaks a rule on what it names, by its place behind there.
-fn first_misnamed_from(entries: &[RecGroupEntry], plan: &Plan, start: u32) -> Option<(u32, Rule)>
-    requires keys { AreKeys (entries.now ++ plan.now.added.items) plan.now.given.numbers }
-    requires shown { AreShown (entries.now ++ plan.now.added.items) }
+fn first_misnamed_from(entries: &RecGroupEntries, plan: &Plan, start: u32) -> Option<(u32, Rule)>
+    requires keys { AreKeys (entries.now ++ plan.now.added) plan.now.given.numbers }
+    requires shown { AreShown (entries.now ++ plan.now.added) }
     requires start { start ≤ length plan.now.map.items }
     requires few { length plan.now.map.items < 2 ^ 32 }
-    ensures { result ≡ first_misnamed_of (map (λ i. named_by (closed_tree (made_by (entries.now ++ plan.now.added.items))) (type_index.Engine i)) (drop start plan.now.map.items)) }
+    ensures { result ≡ first_misnamed_of (map (λ i. named_by (closed_tree (made_by (entries.now ++ plan.now.added))) (type_index.Engine i)) (drop start plan.now.map.items)) }
 {
-    let types = RegisteredTypes::new(entries, plan.added.as_slice());
+    let types = RegisteredTypes::new(entries, &plan.added);
     first_misnamed(&types, &plan.map.as_slice()[start as usize..])
 }
 
@@ -60,25 +60,25 @@ fn first_misnamed_from(entries: &[RecGroupEntry], plan: &Plan, start: u32) -> Op
 /// before. Answers the first that breaks a rule, by its place in the group.
 fn plan_tested(
     alloc: Global,
-    entries: &[RecGroupEntry],
+    entries: &RecGroupEntries,
     plan: &mut Plan,
     start: u32,
     group: &WasmRecGroup,
 ) -> Result<Option<(u32, Rule)>, OutOfMemory>
     requires start { start ≡ length plan.old.map.items }
     requires few { length plan.old.map.items + length group.now.types < 2 ^ 32 }
-    requires keys { AreKeys (entries.now ++ plan.old.added.items) plan.old.given.numbers }
-    requires shown { AreShown (entries.now ++ plan.old.added.items) }
-    requires rules { KeepRules (made_by (entries.now ++ plan.old.added.items)) }
+    requires keys { AreKeys (entries.now ++ plan.old.added) plan.old.given.numbers }
+    requires shown { AreShown (entries.now ++ plan.old.added) }
+    requires rules { KeepRules (made_by (entries.now ++ plan.old.added)) }
     requires named { (known : List ClosedTree) × AreNamed entries.now plan.old known }
     requires only { AreModuleTypes (group.now ∷ []) }
     requires ordered { first_disorder_of (length plan.old.map.items) group.now.types ≡ None }
     ensures planned { IfOk result (λ broken. broken ≡ None → PlansGroup entries.now plan.old plan.new group.now) }
     ensures broken { IfOk result (λ broken. (known : List ClosedTree) → AreNamed entries.now plan.old known → broken ≡ first_misnamed_of (group_trees known group.now)) }
 {
-    let before = plan.added.as_slice().len();
+    let before = plan.added.len();
     plan_group(alloc, entries, plan, start, group)?;
-    if plan.added.as_slice().len() == before {
+    if plan.added.len() == before {
         return Ok(None);
     }
     Ok(first_misnamed_from(entries, plan, start))
@@ -88,14 +88,14 @@ fn plan_tested(
 /// the group: the order of the whole group is tested before what its types name.
 fn plan_checked(
     alloc: Global,
-    entries: &[RecGroupEntry],
+    entries: &RecGroupEntries,
     plan: &mut Plan,
     group: &WasmRecGroup,
 ) -> Result<Option<(u32, Rule)>, OutOfMemory>
     requires few { length plan.old.map.items + length group.now.types < 2 ^ 32 }
-    requires keys { AreKeys (entries.now ++ plan.old.added.items) plan.old.given.numbers }
-    requires shown { AreShown (entries.now ++ plan.old.added.items) }
-    requires rules { KeepRules (made_by (entries.now ++ plan.old.added.items)) }
+    requires keys { AreKeys (entries.now ++ plan.old.added) plan.old.given.numbers }
+    requires shown { AreShown (entries.now ++ plan.old.added) }
+    requires rules { KeepRules (made_by (entries.now ++ plan.old.added)) }
     requires named { (known : List ClosedTree) × AreNamed entries.now plan.old known }
     requires only { AreModuleTypes (group.now ∷ []) }
     ensures planned { IfOk result (λ broken. broken ≡ None → PlansGroup entries.now plan.old plan.new group.now) }
@@ -125,11 +125,11 @@ fn misplaced(group: usize, broken: (u32, Rule)) -> (Place, Rule)
 /// rule (WebAssembly 3.0, "Recursive Types", "Heap Types" and "Matching"; exceptions and continuations after wasmtime).
 pub fn plan_groups(
     alloc: Global,
-    entries: &[RecGroupEntry],
+    entries: &RecGroupEntries,
     plan: &mut Plan,
     groups: &[WasmRecGroup],
 ) -> Result<Option<(Place, Rule)>, OutOfMemory>
-    requires empty { (plan.old.added.items ≡ []) × (plan.old.numbers.items ≡ []) × (plan.old.map.items ≡ []) }
+    requires empty { (plan.old.added ≡ []) × (plan.old.numbers.items ≡ []) × (plan.old.map.items ≡ []) }
     requires keys { AreKeys entries.now plan.old.given.numbers }
     requires shown { AreShown entries.now }
     requires rules { KeepRules (made_by entries.now) }

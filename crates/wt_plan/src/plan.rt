@@ -21,8 +21,9 @@ use std::alloc::Global;
 use wt_env::memory::OutOfMemory;
 use wt_env::seq::Seq;
 use wt_env::types::{EngineOrModuleTypeIndex, VMSharedTypeIndex, WasmRecGroup, WasmSubType};
+use wt_keys::entries::RecGroupEntries;
 use wt_keys::entry::RecGroupEntry;
-use wt_keys::search::{find_group, is_used, place_of};
+use wt_keys::search::place_of;
 use wt_model::ever::EverRegistered;
 use wt_tree::map_refs::{IndexChange, map_group_refs};
 use wt_tree::refs::leaving_refs;
@@ -32,7 +33,7 @@ use wt_tree::trampoline::other_trampoline;
 #[derive(Debug, Drop)]
 pub struct Plan {
     /// The groups that are new, in order.
-    pub added: Vec<RecGroupEntry>,
+    pub added: RecGroupEntries,
     /// How much was ever registered, with these.
     pub given: EverRegistered,
     /// The registration number of each group that occurs, in order.
@@ -44,13 +45,13 @@ pub struct Plan {
 impl Plan {
     /// A plan of nothing, where so much was registered.
     pub fn new(alloc: Global, given: EverRegistered) -> Plan
-        ensures added { result.added.items ≡ [] }
+        ensures added { result.added ≡ [] }
         ensures given { result.given ≡ given }
         ensures numbers { result.numbers.items ≡ [] }
         ensures map { result.map.items ≡ [] }
     {
         Plan {
-            added: Vec::new(alloc),
+            added: RecGroupEntries::new(alloc),
             given,
             numbers: Vec::new(alloc),
             map: Vec::new(alloc),
@@ -60,15 +61,15 @@ impl Plan {
 
 /// The entry that has this key.
 fn find_planned<'a>(
-    entries: &'a [RecGroupEntry],
-    added: &'a [RecGroupEntry],
+    entries: &'a RecGroupEntries,
+    added: &'a RecGroupEntries,
     key: &WasmRecGroup,
 ) -> Option<&'a RecGroupEntry>
     ensures { option_copied result ≡ find (λ entry. rec_group_eq entry.hash_consing_key key.now) (entries.now ++ added.now) }
 {
-    match find_group(entries, key) {
+    match entries.find_group(key) {
         Some(entry) => Some(entry),
-        None => find_group(added, key),
+        None => added.find_group(key),
     }
 }
 
@@ -81,8 +82,8 @@ fn is_taken(taken: &[VMSharedTypeIndex], candidate: u32) -> bool
 
 /// Whether an index is used by what stands, by what was planned, or by what was taken.
 fn is_planned(
-    entries: &[RecGroupEntry],
-    added: &[RecGroupEntry],
+    entries: &RecGroupEntries,
+    added: &RecGroupEntries,
     taken: &[VMSharedTypeIndex],
     candidate: u32,
 ) -> bool
@@ -91,14 +92,14 @@ fn is_planned(
     if is_taken(taken, candidate) {
         return true;
     }
-    is_used(entries, candidate) || is_used(added, candidate)
+    entries.is_used(candidate) || added.is_used(candidate)
 }
 
 /// The so many smallest indices that are free, in order.
 fn assign_shared_type_indices(
     alloc: Global,
-    entries: &[RecGroupEntry],
-    added: &[RecGroupEntry],
+    entries: &RecGroupEntries,
+    added: &RecGroupEntries,
     count: usize,
 ) -> Result<Seq<VMSharedTypeIndex>, OutOfMemory>
     ensures { IfOk result (λ indices. indices ≡ free_indices_of count (used (made_by (entries.now ++ added.now)))) }
@@ -117,12 +118,12 @@ fn assign_shared_type_indices(
 
 /// The registration number and place of the type that has this index.
 fn locate_in(
-    entries: &[RecGroupEntry],
+    entries: &RecGroupEntries,
     index: VMSharedTypeIndex,
 ) -> Result<Option<(u64, u32)>, OutOfMemory>
     ensures { IfOk result (λ at. at ≡ locate (made_by entries.now) index) }
 {
-    for entry in entries {
+    for entry in entries.as_slice() {
         if let Some(place) = place_of(entry.shared_type_indices.as_slice(), index) {
             return match u32::try_from(place) {
                 Ok(place) => Ok(Some((entry.number, place))),
@@ -135,8 +136,8 @@ fn locate_in(
 
 /// The registration number and place that a reference of a key names.
 fn named_planned(
-    entries: &[RecGroupEntry],
-    added: &[RecGroupEntry],
+    entries: &RecGroupEntries,
+    added: &RecGroupEntries,
     reference: &EngineOrModuleTypeIndex,
 ) -> Result<Option<(u64, u32)>, OutOfMemory>
     ensures { IfOk result (λ at. at ≡ named_at (made_by (entries.now ++ added.now)) reference.now) }
@@ -153,8 +154,8 @@ fn named_planned(
 /// What the references of a key name, in order; each names a registered or planned type.
 fn outer_of(
     alloc: Global,
-    entries: &[RecGroupEntry],
-    added: &[RecGroupEntry],
+    entries: &RecGroupEntries,
+    added: &RecGroupEntries,
     types: &[WasmSubType],
 ) -> Result<Seq<(u64, u32)>, OutOfMemory>
     requires { AreResolved (made_by (entries.now ++ added.now)) types.now }
@@ -205,8 +206,8 @@ fn shown_members(
 /// told of the trampolines of its members.
 fn new_entry(
     alloc: Global,
-    entries: &[RecGroupEntry],
-    added: &[RecGroupEntry],
+    entries: &RecGroupEntries,
+    added: &RecGroupEntries,
     numbers: u64,
     key: WasmRecGroup,
     trampolines: Seq<Option<u64>>,
@@ -275,7 +276,7 @@ fn one_more(
 
 /// One more group that is new, and no occurrence of it.
 fn add_entry(plan: &mut Plan, entry: RecGroupEntry) -> Result<(), OutOfMemory>
-    ensures added { OnOk result (plan.new.added.items ≡ plan.old.added.items ++ entry ∷ []) }
+    ensures added { OnOk result (plan.new.added ≡ plan.old.added ++ entry ∷ []) }
     ensures given { OnOk result (plan.new.given ≡ record {
       numbers = plan.old.given.numbers + 1;
       types = plan.old.given.types + length entry.shared_type_indices;
@@ -293,22 +294,22 @@ fn add_entry(plan: &mut Plan, entry: RecGroupEntry) -> Result<(), OutOfMemory>
 /// Plans the group of this trampoline alone, which may be there already. Answers its registration number.
 fn plan_alone(
     alloc: Global,
-    entries: &[RecGroupEntry],
+    entries: &RecGroupEntries,
     plan: &mut Plan,
     member: WasmSubType,
 ) -> Result<u64, OutOfMemory>
     requires own { own_test member ≡ true }
-    requires keys { AreKeys (entries.now ++ plan.old.added.items) plan.old.given.numbers }
+    requires keys { AreKeys (entries.now ++ plan.old.added) plan.old.given.numbers }
     ensures ok { OnOk result (plan_trampoline_of (plan_of entries.now plan.old) (Some member) ≡ plan_of entries.now plan.new) }
-    ensures keys { OnOk result (AreKeys (entries.now ++ plan.new.added.items) plan.new.given.numbers) }
+    ensures keys { OnOk result (AreKeys (entries.now ++ plan.new.added) plan.new.given.numbers) }
     ensures alone { IfOk result (λ number. PlansAlone entries.now plan.old plan.new member number) }
 {
     let key = WasmRecGroup::alone(alloc, member)?;
-    if let Some(alone) = find_planned(entries, plan.added.as_slice(), &key) {
+    if let Some(alone) = find_planned(entries, &plan.added, &key) {
         return Ok(alone.number);
     }
     let told = Seq::one(alloc, None)?;
-    let added = plan.added.as_slice();
+    let added = &plan.added;
     let entry = new_entry(alloc, entries, added, plan.given.numbers, key, told)?;
     let number = entry.number;
     add_entry(plan, entry)?;
@@ -319,13 +320,13 @@ fn plan_alone(
 /// group.
 fn plan_trampoline(
     alloc: Global,
-    entries: &[RecGroupEntry],
+    entries: &RecGroupEntries,
     plan: &mut Plan,
     ty: &WasmSubType,
 ) -> Result<Option<u64>, OutOfMemory>
-    requires { AreKeys (entries.now ++ plan.old.added.items) plan.old.given.numbers }
+    requires { AreKeys (entries.now ++ plan.old.added) plan.old.given.numbers }
     ensures ok { OnOk result (plan_trampoline_of (plan_of entries.now plan.old) (other_of ty.now) ≡ plan_of entries.now plan.new) }
-    ensures keys { OnOk result (AreKeys (entries.now ++ plan.new.added.items) plan.new.given.numbers) }
+    ensures keys { OnOk result (AreKeys (entries.now ++ plan.new.added) plan.new.given.numbers) }
     ensures told { IfOk result (λ told. PlansTold entries.now plan.old plan.new (other_of ty.now) told) }
 {
     match other_trampoline(alloc, ty)? {
@@ -337,11 +338,11 @@ fn plan_trampoline(
 /// Plans the trampolines of members, in order. Answers what is told of them.
 fn plan_trampolines(
     alloc: Global,
-    entries: &[RecGroupEntry],
+    entries: &RecGroupEntries,
     plan: &mut Plan,
     types: &[WasmSubType],
 ) -> Result<Seq<Option<u64>>, OutOfMemory>
-    requires { AreKeys (entries.now ++ plan.old.added.items) plan.old.given.numbers }
+    requires { AreKeys (entries.now ++ plan.old.added) plan.old.given.numbers }
     ensures { IfOk result (λ told. PlansTrampolines entries.now plan.old plan.new types.now told) }
 {
     let mut told = Seq::new(alloc);
@@ -368,20 +369,20 @@ fn add_occurrence(
 /// Plans one more group that is new, behind the trampolines of its members.
 fn plan_new(
     alloc: Global,
-    entries: &[RecGroupEntry],
+    entries: &RecGroupEntries,
     plan: &mut Plan,
     key: WasmRecGroup,
 ) -> Result<(), OutOfMemory>
-    requires keys { AreKeys (entries.now ++ plan.old.added.items) plan.old.given.numbers }
-    requires named { AreResolved (made_by (entries.now ++ plan.old.added.items)) key.types }
+    requires keys { AreKeys (entries.now ++ plan.old.added) plan.old.given.numbers }
+    requires named { AreResolved (made_by (entries.now ++ plan.old.added)) key.types }
     requires slots { KeyNamesTypes key.types }
-    requires new { find (λ entry. rec_group_eq entry.hash_consing_key key) (entries.now ++ plan.old.added.items) ≡ None }
+    requires new { find (λ entry. rec_group_eq entry.hash_consing_key key) (entries.now ++ plan.old.added) ≡ None }
     ensures ok { OnOk result (with_new (plan_trampolines_of (plan_of entries.now plan.old) key.types) key.types ≡ plan_of entries.now plan.new) }
-    ensures keys { OnOk result (AreKeys (entries.now ++ plan.new.added.items) plan.new.given.numbers) }
+    ensures keys { OnOk result (AreKeys (entries.now ++ plan.new.added) plan.new.given.numbers) }
     ensures one { OnOk result (PlansOne entries.now plan.old plan.new key.types) }
 {
     let told = plan_trampolines(alloc, entries, plan, key.types.as_slice())?;
-    let added = plan.added.as_slice();
+    let added = &plan.added;
     let entry = new_entry(alloc, entries, added, plan.given.numbers, key, told)?;
     add_occurrence(&mut plan.numbers, &mut plan.map, &entry)?;
     add_entry(plan, entry)?;
@@ -392,18 +393,18 @@ fn plan_new(
 /// is a place of its own, and each supertype is before the type that declares it.
 pub fn plan_key(
     alloc: Global,
-    entries: &[RecGroupEntry],
+    entries: &RecGroupEntries,
     plan: &mut Plan,
     key: WasmRecGroup,
 ) -> Result<(), OutOfMemory>
-    requires keys { AreKeys (entries.now ++ plan.old.added.items) plan.old.given.numbers }
-    requires named { AreResolved (made_by (entries.now ++ plan.old.added.items)) key.types }
+    requires keys { AreKeys (entries.now ++ plan.old.added) plan.old.given.numbers }
+    requires named { AreResolved (made_by (entries.now ++ plan.old.added)) key.types }
     requires slots { KeyNamesTypes key.types }
     ensures ok { OnOk result (plan_key_of (plan_of entries.now plan.old) key.types ≡ plan_of entries.now plan.new) }
-    ensures keys { OnOk result (AreKeys (entries.now ++ plan.new.added.items) plan.new.given.numbers) }
+    ensures keys { OnOk result (AreKeys (entries.now ++ plan.new.added) plan.new.given.numbers) }
     ensures one { OnOk result (PlansOne entries.now plan.old plan.new key.types) }
 {
-    if let Some(entry) = find_planned(entries, plan.added.as_slice(), &key) {
+    if let Some(entry) = find_planned(entries, &plan.added, &key) {
         return add_occurrence(&mut plan.numbers, &mut plan.map, entry);
     }
     plan_new(alloc, entries, plan, key)

@@ -39,8 +39,8 @@ refused-before registry party registration why is = inr (by (rule_refusal regist
 -- ---- the plan
 
 -- a plan that begins with the entries of a registry begins with that registry
-pub planned-at : (from : Plan → Plan) (engine : EngineParts) (groups : TypeRegistryInner) (slice : List RecGroupEntry) (plan : PlanFields) (old : Registry) → slice ≡ groups.entries.items → registry_at engine groups ≡ old
-    → from (nothing_planned slice groups.given) ≡ plan_of slice plan → from (empty_plan old) ≡ plan_of groups.entries.items plan
+pub planned-at : (from : Plan → Plan) (engine : EngineParts) (groups : TypeRegistryInner) (slice : List RecGroupEntry) (plan : PlanFields) (old : Registry) → slice ≡ groups.entries → registry_at engine groups ≡ old
+    → from (nothing_planned slice groups.given) ≡ plan_of slice plan → from (empty_plan old) ≡ plan_of groups.entries plan
 planned-at from engine groups slice plan old same view planned =
     ap (λ (r : Registry). from (empty_plan r)) (sym view)
     ∙ ap (λ (es : List RecGroupEntry). from (nothing_planned es groups.given)) (sym same)
@@ -62,38 +62,38 @@ if_err (Ok a) p f = tt
 if_err (Err e) p f = f e p
 
 module _ (engine : EngineParts) (groups : TypeRegistryInner) (plan : PlanFields) (old : Registry) (registration : Registration) (view : registry_at engine groups ≡ old)
-    (planned : registration_plan old registration ≡ plan_of groups.entries.items plan) (clear : option_or (rule_refusal old registration) (gc_refusal old registration) ≡ None) (party owner : ℕ) (same : owner ≡ party) where
+    (planned : registration_plan old registration ≡ plan_of groups.entries plan) (clear : option_or (rule_refusal old registration) (gc_refusal old registration) ≡ None) (party owner : ℕ) (same : owner ≡ party) where
   -- a plan is refused with the limit that it would pass
-  pub refusal-is : registration_refusal old party registration ≡ option_map refusal.Full (passed_limit (registry_at engine groups) owner (plan_of groups.entries.items plan))
+  pub refusal-is : registration_refusal old party registration ≡ option_map refusal.Full (passed_limit (registry_at engine groups) owner (plan_of groups.entries plan))
   refusal-is =
       let none = neither_some (rule_refusal old registration) (gc_refusal old registration) clear in
       by-limit old party registration none.0 none.1
       ∙ (λ k. option_map refusal.Full (passed_limit (sym view k) (sym same k) (planned k)))
 
   -- and one that would pass none is accepted
-  pub accepts : passed_limit (registry_at engine groups) owner (plan_of groups.entries.items plan) ≡ None → registration_refusal old party registration ≡ None
+  pub accepts : passed_limit (registry_at engine groups) owner (plan_of groups.entries plan) ≡ None → registration_refusal old party registration ≡ None
   accepts none = refusal-is ∙ ap (option_map refusal.Full) none
 
-  pub registers : (after : Registry) (hold : Hold) → passed_limit (registry_at engine groups) owner (plan_of groups.entries.items plan) ≡ None → carried_out (registry_at engine groups) owner (plan_of groups.entries.items plan) ≡ after
-      → hold_of engine.number owner (plan_of groups.entries.items plan) ≡ hold → register_one old party registration ≡ Ok (hold, after)
+  pub registers : (after : Registry) (hold : Hold) → passed_limit (registry_at engine groups) owner (plan_of groups.entries plan) ≡ None → carried_out (registry_at engine groups) owner (plan_of groups.entries plan) ≡ after
+      → hold_of engine.number owner (plan_of groups.entries plan) ≡ hold → register_one old party registration ≡ Ok (hold, after)
   registers after hold none carried is =
       (λ k. made_unless (accepts none k) (hold_of (sym view k).engine.number (sym same k) (planned k), carried_out (sym view k) (sym same k) (planned k)))
       ∙ (λ k. Ok (is k, carried k))
 
 -- what was planned is registered by its closed trees
 pub names : (engine : EngineParts) (groups new : TypeRegistryInner) (slice : List RecGroupEntry) (plan : PlanFields) (old : Registry) (registration : Registration) (owner : ℕ) (index : VMSharedTypeIndex)
-    → slice ≡ groups.entries.items → registry_at engine groups ≡ old
+    → slice ≡ groups.entries → registry_at engine groups ≡ old
     → AreNamed slice plan (trees_of (made_by slice) registration) → plan.map.items ≡ index ∷ []
-    → carried_out (registry_at engine groups) owner (plan_of groups.entries.items plan) ≡ registry_at engine new
-    → closed_tree (made_by new.entries.items) index ∷ [] ≡ map Some (trees_of old.made registration)
+    → carried_out (registry_at engine groups) owner (plan_of groups.entries plan) ≡ registry_at engine new
+    → closed_tree (made_by new.entries) index ∷ [] ≡ map Some (trees_of old.made registration)
 names engine groups new slice plan old registration owner index same view named map_is carried =
     ap (λ (made : List RegisteredGroup). closed_tree made index ∷ []) (sym made)
-    ∙ ap (map (closed_tree (made_by (slice ++ plan.added.items)))) (sym map_is)
+    ∙ ap (map (closed_tree (made_by (slice ++ plan.added)))) (sym map_is)
     ∙ named
     ∙ ap (λ (made : List RegisteredGroup). map Some (trees_of made registration)) (ap made_by same ∙ ap (λ (r : Registry). r.made) view)
   where
-    made : made_by (slice ++ plan.added.items) ≡ made_by new.entries.items
+    made : made_by (slice ++ plan.added) ≡ made_by new.entries
     made =
-        ap (λ (es : List RecGroupEntry). made_by (es ++ plan.added.items)) same
-        ∙ sym (groups_of-joined groups.entries.items plan)
+        ap (λ (es : List RecGroupEntry). made_by (es ++ plan.added)) same
+        ∙ sym (groups_of-joined groups.entries plan)
         ∙ ap (λ (r : Registry). r.made) carried

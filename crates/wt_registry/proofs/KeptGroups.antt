@@ -31,17 +31,17 @@ use Rattle.wt_holds.specs.Kept.{AreKept, registry_at}
 use Rattle.wt_holds.proofs.Counted.{held_at-bounded}
 
 -- the same entries, counts, marks and numbers are kept as they were
-pub kept-same : (engine : EngineParts) (old new : TypeRegistryInner) → AreKept engine old → new.entries.items ≡ old.entries.items → new.counts.items ≡ old.counts.items
+pub kept-same : (engine : EngineParts) (old new : TypeRegistryInner) → AreKept engine old → new.entries ≡ old.entries → new.counts.items ≡ old.counts.items
     → new.marks.items ≡ old.marks.items → new.given ≡ old.given → AreKept engine new
 kept-same engine old new kept entries counts marks given = record {
-  keys = subst (λ (list : List RecGroupEntry). AreKeys list new.given.numbers) (sym entries) (subst (λ (g : EverRegistered). AreKeys old.entries.items g.numbers) (sym given) kept.keys);
+  keys = subst (λ (list : List RecGroupEntry). AreKeys list new.given.numbers) (sym entries) (subst (λ (g : EverRegistered). AreKeys old.entries g.numbers) (sym given) kept.keys);
   shown = subst AreShown (sym entries) kept.shown;
   rules = subst (λ (list : List RecGroupEntry). KeepRules (made_by list)) (sym entries) kept.rules;
   within = subst (λ (list : List RecGroupEntry). length list ≤ engine.limits.groups) (sym entries) kept.within;
   below = subst (λ (list : List RecGroupEntry). AreBelow engine.limits.types (made_by list)) (sym entries) kept.below;
   marks = ap length marks ∙ kept.marks ∙ ap length (sym entries);
   holds = subst (λ (list : List RecGroupEntry). HoldsInvariant engine (made_by list) (standings_of new.counts.items)) (sym entries)
-      (subst (λ standings. HoldsInvariant engine (made_by old.entries.items) standings) (ap standings_of (sym counts)) kept.holds);
+      (subst (λ standings. HoldsInvariant engine (made_by old.entries) standings) (ap standings_of (sym counts)) kept.holds);
 }
 
 -- ---- no limit is passed
@@ -108,58 +108,58 @@ room-left registry party plan are none number = by (occurs_or_not number plan.nu
 -- ---- a plan that is carried out
 
 module _ (engine : EngineParts) (old : TypeRegistryInner) (plan : PlanFields) (party : ℕ) (kept : AreKept engine old) (within : party < engine.limits.parties)
-    (keys : AreKeys (old.entries.items ++ plan.added.items) plan.given.numbers) (occurs : Occurs (plan_of old.entries.items plan))
-    (none : passed_limit (registry_at engine old) party (plan_of old.entries.items plan) ≡ None) where
-  joined : groups_of (plan_of old.entries.items plan) ≡ made_by (old.entries.items ++ plan.added.items)
-  joined = groups_of-joined old.entries.items plan
+    (keys : AreKeys (old.entries ++ plan.added) plan.given.numbers) (occurs : Occurs (plan_of old.entries plan))
+    (none : passed_limit (registry_at engine old) party (plan_of old.entries plan) ≡ None) where
+  joined : groups_of (plan_of old.entries plan) ≡ made_by (old.entries ++ plan.added)
+  joined = groups_of-joined old.entries plan
 
-  pub can-carry : CanCarryOut engine (made_by old.entries.items) (made_by plan.added.items) (standings_of old.counts.items) party plan.numbers.items
+  pub can-carry : CanCarryOut engine (made_by old.entries) (made_by plan.added) (standings_of old.counts.items) party plan.numbers.items
   can-carry = record {
     top = old.given.numbers;
     rising = kept.keys.rising;
-    older = names_older old.entries.items old.given.numbers kept.keys;
+    older = names_older old.entries old.given.numbers kept.keys;
     more_top = plan.given.numbers;
     more_rising = subst (λ (made : List RegisteredGroup). IsRising 0 made plan.given.numbers) (sym joined) keys.rising;
-    more_older = subst NamesOlder (sym joined) (names_older (old.entries.items ++ plan.added.items) plan.given.numbers keys);
+    more_older = subst NamesOlder (sym joined) (names_older (old.entries ++ plan.added) plan.given.numbers keys);
     holds = kept.holds;
     every = occurs.every;
     only = occurs.only;
     within = within;
-    room = room-left (registry_at engine old) party (plan_of old.entries.items plan) kept.holds.counted none;
+    room = room-left (registry_at engine old) party (plan_of old.entries plan) kept.holds.counted none;
   }
 
-  module _ (new : TypeRegistryInner) (entries : new.entries.items ≡ old.entries.items ++ plan.added.items) (given : new.given ≡ plan.given)
-      (counts : standings_of new.counts.items ≡ hold_each party plan.numbers.items (stop_waiting_each (made_by plan.added.items) (standings_of old.counts.items) ++ map (new_holds engine) (made_by plan.added.items))) where
-    made-new : groups_of (plan_of old.entries.items plan) ≡ made_by new.entries.items
+  module _ (new : TypeRegistryInner) (entries : new.entries ≡ old.entries ++ plan.added) (given : new.given ≡ plan.given)
+      (counts : standings_of new.counts.items ≡ hold_each party plan.numbers.items (stop_waiting_each (made_by plan.added) (standings_of old.counts.items) ++ map (new_holds engine) (made_by plan.added))) where
+    made-new : groups_of (plan_of old.entries plan) ≡ made_by new.entries
     made-new = joined ∙ ap made_by (sym entries)
 
     -- the registry that it comes to
-    pub carried-at : carried_out (registry_at engine old) party (plan_of old.entries.items plan) ≡ registry_at engine new
+    pub carried-at : carried_out (registry_at engine old) party (plan_of old.entries plan) ≡ registry_at engine new
     carried-at = λ i. record { engine = engine; made = made-new i; given = (sym given) i; standings = (sym counts) i }
 
-    pub kept-carried : KeepRules (made_by (old.entries.items ++ plan.added.items)) → AreShown plan.added.items → AreNewBelow old.entries.items plan.added.items → length new.marks.items ≡ length old.marks.items + length plan.added.items → AreKept engine new
+    pub kept-carried : KeepRules (made_by (old.entries ++ plan.added)) → AreShown plan.added → AreNewBelow old.entries plan.added → length new.marks.items ≡ length old.marks.items + length plan.added → AreKept engine new
     kept-carried rules shown below marks =
-        let grouped = groups_within (registry_at engine old) party (plan_of old.entries.items plan) none in
-        let so_many : length (groups_of (plan_of old.entries.items plan)) ≡ length new.entries.items = ap length made-new ∙ length-map new.entries.items made_of in
-        let longer : length new.entries.items ≡ length old.entries.items + length plan.added.items = ap length entries ∙ length-append old.entries.items plan.added.items in
+        let grouped = groups_within (registry_at engine old) party (plan_of old.entries plan) none in
+        let so_many : length (groups_of (plan_of old.entries plan)) ≡ length new.entries = ap length made-new ∙ length-map new.entries made_of in
+        let longer : length new.entries ≡ length old.entries + length plan.added = ap length entries ∙ length-append old.entries plan.added in
         let marked = kept.marks in
         record {
-          keys = subst (λ (list : List RecGroupEntry). AreKeys list new.given.numbers) (sym entries) (subst (λ (g : EverRegistered). AreKeys (old.entries.items ++ plan.added.items) g.numbers) (sym given) keys);
-          shown = subst AreShown (sym entries) (λ entry at. ⊎_elim (kept.shown entry) (shown entry) (among_either old.entries.items plan.added.items entry at));
+          keys = subst (λ (list : List RecGroupEntry). AreKeys list new.given.numbers) (sym entries) (subst (λ (g : EverRegistered). AreKeys (old.entries ++ plan.added) g.numbers) (sym given) keys);
+          shown = subst AreShown (sym entries) (λ entry at. ⊎_elim (kept.shown entry) (shown entry) (among_either old.entries plan.added entry at));
           rules = subst (λ (list : List RecGroupEntry). KeepRules (made_by list)) (sym entries) rules;
           within = omega (arith, grouped, so_many);
-          below = subst (AreBelow engine.limits.types) made-new (λ a i at there. all_below a i (among_either (made_by old.entries.items) (made_by plan.added.items) a at) there);
+          below = subst (AreBelow engine.limits.types) made-new (λ a i at there. all_below a i (among_either (made_by old.entries) (made_by plan.added) a at) there);
           marks = omega (arith, marks, longer, marked);
           holds = subst (λ (made : List RegisteredGroup). HoldsInvariant engine made (standings_of new.counts.items)) made-new
-              (subst (λ after. HoldsInvariant engine (groups_of (plan_of old.entries.items plan)) after) (sym counts)
-              (carried-holds engine (made_by old.entries.items) (made_by plan.added.items) (standings_of old.counts.items) party plan.numbers.items can-carry));
+              (subst (λ after. HoldsInvariant engine (groups_of (plan_of old.entries plan)) after) (sym counts)
+              (carried-holds engine (made_by old.entries) (made_by plan.added) (standings_of old.counts.items) party plan.numbers.items can-carry));
         }
       where
-        all_below : (a : RegisteredGroup) (i : VMSharedTypeIndex) → Among a (made_by old.entries.items) ⊎ Among a (made_by plan.added.items) → Among i a.indices → i.0 < engine.limits.types
+        all_below : (a : RegisteredGroup) (i : VMSharedTypeIndex) → Among a (made_by old.entries) ⊎ Among a (made_by plan.added) → Among i a.indices → i.0 < engine.limits.types
         all_below a i (inl before) there = kept.below a i before there
         all_below a i (inr is_new) there =
-            let named = among_map made_of plan.added.items a is_new in
+            let named = among_map made_of plan.added a is_new in
             let own = below named.0 i named.1 (subst (λ (m : RegisteredGroup). Among i m.indices) named.2 there) in
-            let few = types_within (registry_at engine old) party (plan_of old.entries.items plan) none in
-            let same : length (used (groups_of (plan_of old.entries.items plan))) ≡ length (used (made_by (old.entries.items ++ plan.added.items))) = ap (λ made. length (used made)) joined in
+            let few = types_within (registry_at engine old) party (plan_of old.entries plan) none in
+            let same : length (used (groups_of (plan_of old.entries plan))) ≡ length (used (made_by (old.entries ++ plan.added))) = ap (λ made. length (used made)) joined in
             omega (arith, own, few, same)

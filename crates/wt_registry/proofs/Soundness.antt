@@ -12,13 +12,13 @@ sound engine groups kept =
     consistent-sound (registry_at engine groups)
     (record {
       rising = kept.keys.rising;
-      one_index = one_index groups.entries.items groups.given.numbers kept.keys;
-      names_older = names_older groups.entries.items groups.given.numbers kept.keys;
+      one_index = one_index groups.entries groups.given.numbers kept.keys;
+      names_older = names_older groups.entries groups.given.numbers kept.keys;
       is_located = kept.keys.located;
-      indexed = indexed groups.entries.items groups.given.numbers kept.keys;
+      indexed = indexed groups.entries groups.given.numbers kept.keys;
       below = kept.below;
-      name_types = name_types groups.entries.items groups.given.numbers kept.keys;
+      name_types = name_types groups.entries groups.given.numbers kept.keys;
       rules = kept.rules;
-      trampolines = have_trampolines groups.entries.items groups.given.numbers kept.keys;
+      trampolines = have_trampolines groups.entries groups.given.numbers kept.keys;
       holds = kept.holds;
     })

@@ -29,6 +29,7 @@ use wt_env::memory::OutOfMemory;
 use wt_env::types::VMSharedTypeIndex;
 use wt_holds::hold_counts::{HoldCounts, gain, held_by, no_holds, set_waits};
 use wt_holds::inner::TypeRegistryInner;
+use wt_keys::entries::RecGroupEntries;
 use wt_keys::entry::RecGroupEntry;
 use wt_keys::search::trampoline_of;
 use wt_model::refusal::{BuildRefusal, Full};
@@ -111,17 +112,15 @@ fn hold_each(counts: &mut Vec<HoldCounts>, party: u32, numbers: &[u64])
     }
 }
 
-/// Room for so many groups more.
-fn reserve_groups(groups: &mut TypeRegistryInner, more: usize) -> Result<(), OutOfMemory>
-    ensures entries { groups.new.entries.items ≡ groups.old.entries.items }
+/// Room for the counts and marks of so many groups more.
+fn reserve_counts(groups: &mut TypeRegistryInner, more: usize) -> Result<(), OutOfMemory>
+    ensures entries { groups.new.entries ≡ groups.old.entries }
     ensures counts { groups.new.counts.items ≡ groups.old.counts.items }
     ensures marks { groups.new.marks.items ≡ groups.old.marks.items }
     ensures given { groups.new.given ≡ groups.old.given }
-    ensures entries_room { OnOk result (vec_len groups.new.entries + more ≤ vec_capacity groups.new.entries) }
     ensures counts_room { OnOk result (vec_len groups.new.counts + more ≤ vec_capacity groups.new.counts) }
     ensures marks_room { OnOk result (vec_len groups.new.marks + more ≤ vec_capacity groups.new.marks) }
 {
-    groups.entries.reserve(more)?;
     groups.counts.reserve(more)?;
     groups.marks.reserve(more)?;
     Ok(())
@@ -148,25 +147,25 @@ fn add_marks(marks: &mut Vec<bool>, more: usize)
     }
 }
 
-/// The change: the new groups stand, and the party has its holds.
+/// The change: the new groups stand, and the party has its holds. Where there is no room for the groups, nothing changes.
 fn insert_entries(
     groups: &mut TypeRegistryInner,
     party: u32,
     plan: Plan,
     rows: Vec<HoldCounts>,
-) -> (Vec<u64>, Vec<VMSharedTypeIndex>)
-    requires entries_room { vec_len groups.old.entries + vec_len plan.added ≤ vec_capacity groups.old.entries }
+) -> Result<(Vec<u64>, Vec<VMSharedTypeIndex>), OutOfMemory>
     requires counts_room { vec_len groups.old.counts + vec_len rows ≤ vec_capacity groups.old.counts }
-    requires marks_room { vec_len groups.old.marks + vec_len plan.added ≤ vec_capacity groups.old.marks }
+    requires marks_room { vec_len groups.old.marks + length plan.added ≤ vec_capacity groups.old.marks }
     requires calm { (count : CountsOf) → Among count rows.items → count.waits ≡ false }
     requires parties { (count : CountsOf) → Among count (groups.old.counts.items ++ rows.items) → party < length count.holds.items }
-    requires room { (number : ℕ) → held_at (none_waits (made_by plan.added.items) (standings_of groups.old.counts.items) ++ standings_of rows.items) party number + times number plan.numbers.items < 2 ^ 64 }
-    ensures entries { groups.new.entries.items ≡ groups.old.entries.items ++ plan.added.items }
-    ensures counts { standings_of groups.new.counts.items ≡ held_each party plan.numbers.items (none_waits (made_by plan.added.items) (standings_of groups.old.counts.items) ++ standings_of rows.items) }
-    ensures marks { length groups.new.marks.items ≡ length groups.old.marks.items + length plan.added.items }
-    ensures given { groups.new.given ≡ plan.given }
-    ensures numbers { result.0.items ≡ plan.numbers.items }
-    ensures map { result.1.items ≡ plan.map.items }
+    requires room { (number : ℕ) → held_at (none_waits (made_by plan.added) (standings_of groups.old.counts.items) ++ standings_of rows.items) party number + times number plan.numbers.items < 2 ^ 64 }
+    ensures entries { OnOk result (groups.new.entries ≡ groups.old.entries ++ plan.added) }
+    ensures counts { OnOk result (standings_of groups.new.counts.items ≡ held_each party plan.numbers.items (none_waits (made_by plan.added) (standings_of groups.old.counts.items) ++ standings_of rows.items)) }
+    ensures marks { OnOk result (length groups.new.marks.items ≡ length groups.old.marks.items + length plan.added) }
+    ensures given { OnOk result (groups.new.given ≡ plan.given) }
+    ensures numbers { IfOk result (λ held. held.0.items ≡ plan.numbers.items) }
+    ensures map { IfOk result (λ held. held.1.items ≡ plan.map.items) }
+    ensures err { OnErr result (groups.new ≡ groups.old) }
 {
     let Plan {
         added,
@@ -174,13 +173,15 @@ fn insert_entries(
         numbers,
         map,
     } = plan;
+    let before = groups.entries.len();
+    let more = added.len();
+    groups.entries.append(added)?;
     move_all(&mut groups.counts, rows);
-    stop_waiting_each(&mut groups.counts, added.as_slice());
-    add_marks(&mut groups.marks, added.len());
-    move_all(&mut groups.entries, added);
+    stop_waiting_each(&mut groups.counts, groups.entries.behind(before));
+    add_marks(&mut groups.marks, more);
     groups.given = given;
     hold_each(&mut groups.counts, party, numbers.as_slice());
-    (numbers, map)
+    Ok((numbers, map))
 }
 
 /// Tests the limits, takes all room, and carries a plan out for a party; or tells the first limit that it would
@@ -194,17 +195,17 @@ pub(crate) fn check_and_commit(
 ) -> Result<(Vec<u64>, Vec<VMSharedTypeIndex>), BuildRefusal>
     requires kept { AreKept engine.now groups.old }
     requires party { party < engine.now.limits.parties }
-    requires keys { AreKeys (groups.old.entries.items ++ plan.added.items) plan.given.numbers }
-    requires shown { AreShown plan.added.items }
-    requires rules { KeepRules (made_by (groups.old.entries.items ++ plan.added.items)) }
-    requires below { AreNewBelow groups.old.entries.items plan.added.items }
-    requires occurs { Occurs (plan_of groups.old.entries.items plan) }
-    ensures accepted { OnOk result (limit_passed (registry_at engine.now groups.old) party (plan_of groups.old.entries.items plan) ≡ None) }
-    ensures ok { OnOk result (carried_out (registry_at engine.now groups.old) party (plan_of groups.old.entries.items plan) ≡ registry_at engine.now groups.new) }
+    requires keys { AreKeys (groups.old.entries ++ plan.added) plan.given.numbers }
+    requires shown { AreShown plan.added }
+    requires rules { KeepRules (made_by (groups.old.entries ++ plan.added)) }
+    requires below { AreNewBelow groups.old.entries plan.added }
+    requires occurs { Occurs (plan_of groups.old.entries plan) }
+    ensures accepted { OnOk result (limit_passed (registry_at engine.now groups.old) party (plan_of groups.old.entries plan) ≡ None) }
+    ensures ok { OnOk result (carried_out (registry_at engine.now groups.old) party (plan_of groups.old.entries plan) ≡ registry_at engine.now groups.new) }
     ensures numbers { IfOk result (λ held. held.0.items ≡ plan.numbers.items) }
     ensures map { IfOk result (λ held. held.1.items ≡ plan.map.items) }
     ensures changes { IfOk result (λ held. HoldChanges (registry_at engine.now groups.old) (registry_at engine.now groups.new) party held.0.items) }
-    ensures refused { IfErr result (λ why. IsRefusal (option_map BuildRefusal.Full (limit_passed (registry_at engine.now groups.old) party (plan_of groups.old.entries.items plan))) why) }
+    ensures refused { IfErr result (λ why. IsRefusal (option_map BuildRefusal.Full (limit_passed (registry_at engine.now groups.old) party (plan_of groups.old.entries plan))) why) }
     ensures err { OnErr result (registry_at engine.now groups.new ≡ registry_at engine.now groups.old) }
     ensures kept { AreKept engine.now groups.new }
 {
@@ -219,8 +220,8 @@ pub(crate) fn check_and_commit(
         return Err(BuildRefusal::Full(full));
     }
     let rows = new_counts(alloc, engine.limits().parties, plan.added.as_slice())?;
-    reserve_groups(groups, plan.added.len())?;
-    Ok(insert_entries(groups, party, plan, rows))
+    reserve_counts(groups, plan.added.len())?;
+    Ok(insert_entries(groups, party, plan, rows)?)
 }
 
 /// What was found, behind what is there. There is room for it.
@@ -237,7 +238,7 @@ fn push_found(indices: &mut Vec<VMSharedTypeIndex>, found: Option<VMSharedTypeIn
 
 /// The index of the trampoline of each function type among these, behind what is there. There is room for them.
 pub(crate) fn fill_trampolines(
-    entries: &[RecGroupEntry],
+    entries: &RecGroupEntries,
     indices: &[VMSharedTypeIndex],
     trampolines: &mut Vec<VMSharedTypeIndex>,
 )

@@ -118,14 +118,14 @@ fn commit_host(
 ) -> Result<RegisteredType, BuildRefusal>
     requires kept { AreKept engine.now groups.old }
     requires party { party < engine.now.limits.parties }
-    requires plans { PlansHost groups.old.entries.items groups.old.given.numbers plan }
-    ensures accepted { OnOk result (passed_limit (registry_at engine.now groups.old) party (plan_of groups.old.entries.items plan) ≡ None) }
-    ensures ok { OnOk result (carried_out (registry_at engine.now groups.old) party (plan_of groups.old.entries.items plan) ≡ registry_at engine.now groups.new) }
-    ensures hold { IfOk result (λ hold. hold_of engine.now.number party (plan_of groups.old.entries.items plan) ≡ hold) }
+    requires plans { PlansHost groups.old.entries groups.old.given.numbers plan }
+    ensures accepted { OnOk result (passed_limit (registry_at engine.now groups.old) party (plan_of groups.old.entries plan) ≡ None) }
+    ensures ok { OnOk result (carried_out (registry_at engine.now groups.old) party (plan_of groups.old.entries plan) ≡ registry_at engine.now groups.new) }
+    ensures hold { IfOk result (λ hold. hold_of engine.now.number party (plan_of groups.old.entries plan) ≡ hold) }
     ensures only { IfOk result (λ hold. plan.map.items ≡ hold.index ∷ []) }
     ensures changes { IfOk result (λ hold. HoldChanges (registry_at engine.now groups.old) (registry_at engine.now groups.new) party (hold.number ∷ [])) }
     ensures held { IfOk result (λ hold. IsHeld (registry_at engine.now groups.new) hold) }
-    ensures refused { IfErr result (λ why. IsRefusal (option_map BuildRefusal.Full (passed_limit (registry_at engine.now groups.old) party (plan_of groups.old.entries.items plan))) why) }
+    ensures refused { IfErr result (λ why. IsRefusal (option_map BuildRefusal.Full (passed_limit (registry_at engine.now groups.old) party (plan_of groups.old.entries plan))) why) }
     ensures err { OnErr result (registry_at engine.now groups.new ≡ registry_at engine.now groups.old) }
     ensures kept { AreKept engine.now groups.new }
 {
@@ -181,7 +181,7 @@ impl RegisteredType {
         if let Some(why) = registry.host_refusal(&ty) {
             return Err(why);
         }
-        let entries = registry.groups.entries.as_slice();
+        let entries = &registry.groups.entries;
         let plan = plan_host_type(registry.alloc, entries, registry.groups.given, ty)?;
         commit_host(
             registry.alloc,
@@ -224,7 +224,7 @@ impl RegisteredType {
         if !registry.engine.gc() {
             return Err(BuildRefusal::NoGc);
         }
-        let entries = registry.groups.entries.as_slice();
+        let entries = &registry.groups.entries;
         let plan = plan_exception(registry.alloc, entries, registry.groups.given, fields)?;
         commit_host(
             registry.alloc,

@@ -14,6 +14,7 @@ use wt_env::types::{
 };
 use wt_holds::inner::TypeRegistryInner;
 use wt_holds::removal::{end_hold, release_groups, sweep_group};
+use wt_keys::entries::RecGroupEntries;
 use wt_keys::search::{borrow_from, live_groups, number_at, trampoline_of};
 use wt_keys::subtyping::is_subtype_of;
 use wt_model::ever::EverRegistered;
@@ -77,7 +78,7 @@ impl TypeRegistry {
             alloc,
             engine: *engine,
             groups: TypeRegistryInner {
-                entries: Vec::new(alloc),
+                entries: RecGroupEntries::new(alloc),
                 counts: Vec::new(alloc),
                 marks: Vec::new(alloc),
                 given: EverRegistered {
@@ -110,7 +111,7 @@ impl TypeRegistry {
         ensures value { option_copied result ≡ sub_type_at self.now.made index }
         ensures found { IsSome result ↔ IsSome (locate self.now.made index) }
     {
-        borrow_from(self.groups.entries.as_slice(), index)
+        borrow_from(&self.groups.entries, index)
     }
 
     /// Whether zero or more declared supertype steps lead from the type with the index `sub` to the one with the
@@ -123,7 +124,7 @@ impl TypeRegistry {
         ensures own { sub ≡ sup → IsTrue result }
     {
         self.tell_invariant();
-        is_subtype_of(self.groups.entries.as_slice(), sub, sup)
+        is_subtype_of(self.alloc, &self.groups.entries, sub, sup)
     }
 
     /// Whether the index names a registered function type.
@@ -131,7 +132,7 @@ impl TypeRegistry {
         ensures function { IsTrue result ↔ IsFunctionIndex self.now.made index }
         ensures trampoline { result ≡ is_some (trampoline_index self.now.made index) }
     {
-        trampoline_of(self.groups.entries.as_slice(), index).is_some()
+        trampoline_of(&self.groups.entries, index).is_some()
     }
 
     /// The index of the trampoline of the function type that has this index: the final function with no supertype
@@ -143,7 +144,7 @@ impl TypeRegistry {
         ensures trees { closed_tree self.now.made result ≡ option_and_then trampoline (closed_tree self.now.made index) }
         ensures own { trampoline_index self.now.made result ≡ Some result }
     {
-        match trampoline_of(self.groups.entries.as_slice(), index) {
+        match trampoline_of(&self.groups.entries, index) {
             Some(trampoline) => trampoline,
             None => unreachable!(),
         }
@@ -199,7 +200,7 @@ impl TypeRegistry {
     pub fn live(&self) -> Result<Seq<LiveGroup>, OutOfMemory>
         ensures { IfOk result (λ groups. groups ≡ live_of self.now.made) }
     {
-        live_groups(self.alloc, self.groups.entries.as_slice())
+        live_groups(self.alloc, &self.groups.entries)
     }
 
     /// What is true of every registry; the shape of each registered type matches that of its declared supertype.
@@ -254,7 +255,7 @@ impl TypeRegistry {
     {
         self.tell_invariant();
         let mut plan = Plan::new(self.alloc, self.groups.given);
-        let entries = self.groups.entries.as_slice();
+        let entries = &self.groups.entries;
         let groups = types.groups.as_slice();
         if let Some((place, rule)) = plan_groups(self.alloc, entries, &mut plan, groups)? {
             return Err(BuildRefusal::InvalidModule { place, rule });
@@ -270,7 +271,7 @@ impl TypeRegistry {
             party.number(),
             plan,
         )?;
-        let entries = self.groups.entries.as_slice();
+        let entries = &self.groups.entries;
         fill_trampolines(entries, map.as_slice(), &mut trampolines);
         Ok(TypeCollection::new(
             self.engine.number(),
@@ -304,7 +305,7 @@ impl TypeRegistry {
     pub(crate) fn number_at(&self, index: VMSharedTypeIndex) -> Option<u64>
         ensures { result ≡ option_map (λ at. at.0) (locate self.now.made index) }
     {
-        number_at(self.groups.entries.as_slice(), index)
+        number_at(&self.groups.entries, index)
     }
 
     /// One more hold of a party on a registered group. It takes no memory.

@@ -8,7 +8,8 @@ use Rattle.wt_keys.specs.declared.entry.RecGroupEntry.{RecGroupEntry}
 use Rattle.wt_holds.specs.Counts.{standing_of, standings_of}
 use Rattle.wt_keys.specs.Entries.{made_of, made_by}
 use Rattle.wt_model.specs.Registered.{RegisteredGroup, GroupHolds}
-use Rattle.wt_holds.specs.Marks.{marked, marked_items, kept_entries}
+use Rattle.wt_keys.specs.Marks.{marked_items}
+use Rattle.wt_holds.specs.Marks.{marked, kept_entries}
 use Rattle.wt_model.specs.Removal.{kept_made, kept_standings}
 
 -- where a test of what f makes of each item is its mark, those that pass are left

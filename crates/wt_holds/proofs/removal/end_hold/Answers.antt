@@ -17,7 +17,7 @@ use Rattle.wt_holds.proofs.removal.end_hold.Goals as goal
 pub lose-requires-clause-parties : goal.lose-requires-clause-parties
 lose-requires-clause-parties c =
     let groups = c.args.groups.now in
-    has_place c.args.engine.now groups.counts.items c.args.party (counted c.args.engine.now (made_by groups.entries.items) (standings_of groups.counts.items) c.requires.kept.holds) c.requires.party
+    has_place c.args.engine.now groups.counts.items c.args.party (counted c.args.engine.now (made_by groups.entries) (standings_of groups.counts.items) c.requires.kept.holds) c.requires.party
 
 pub mark-requires : goal.mark-requires
 mark-requires c =
@@ -28,7 +28,7 @@ mark-requires c =
 pub is_marked-requires : goal.is_marked-requires
 is_marked-requires c =
     let groups = c.args.groups.now in
-    let keep : ℕ → Bool = is_reached (made_by groups.entries.items) (is_root (standings_of c.lose.new.counts.items)) in
+    let keep : ℕ → Bool = is_reached (made_by groups.entries) (is_root (standings_of c.lose.new.counts.items)) in
     let before = ready-counts groups c.lose.new.counts (ready c.args.engine.now groups c.requires.kept)
     (ap (map (λ (s : GroupHolds). s.number)) c.lose.ensures ∙ numbers-change c.args.number (fewer c.args.party) (standings_of groups.counts.items) (λ s. refl)) in
     record {
@@ -38,7 +38,7 @@ is_marked-requires c =
 pub returns-then-is_marked-clause-dropped : goal.returns-then-is_marked-clause-dropped
 returns-then-is_marked-clause-dropped c =
     let groups = c.args.groups.now in
-    let made = made_by groups.entries.items in
+    let made = made_by groups.entries in
     let keep : ℕ → Bool = is_reached made (is_root (standings_of c.lose.new.counts.items)) in
     let registered = held-registered made (standings_of groups.counts.items) c.args.party c.args.number c.requires.kept.holds.numbers c.requires.held in
     let answer : c.is_marked.result ≡ keep c.args.number = told groups c.mark.new.groups keep c.args.number c.is_marked.result c.is_marked.ensures c.mark.ensures.entries c.mark.ensures.marks registered in
@@ -49,15 +49,15 @@ returns-then-is_marked-clause-dropped c =
 pub returns-then-is_marked-clause-kept : goal.returns-then-is_marked-clause-kept
 returns-then-is_marked-clause-kept c =
     let groups = c.args.groups.now in
-    let keep : ℕ → Bool = is_reached (made_by groups.entries.items) (is_root (standings_of c.lose.new.counts.items)) in
-    let marks = ap length c.mark.ensures.marks ∙ (length-marked keep groups.entries.items ∙ ap (λ (es : Vec RecGroupEntry Global). length es.items) (sym c.mark.ensures.entries)) in
+    let keep : ℕ → Bool = is_reached (made_by groups.entries) (is_root (standings_of c.lose.new.counts.items)) in
+    let marks = ap length c.mark.ensures.marks ∙ (length-marked keep groups.entries ∙ ap (λ (es : List RecGroupEntry). length es) (sym c.mark.ensures.entries)) in
     drop-keeps c.args.engine.now groups c.mark.new.groups c.args.party c.args.number None c.requires.kept c.requires.held c.mark.ensures.entries c.mark.ensures.given marks
     (returns-then-is_marked-clause-dropped c)
 
 pub returns-clause-dropped : goal.returns-clause-dropped
 returns-clause-dropped c =
     let groups = c.args.groups.now in
-    let made = made_by groups.entries.items in
+    let made = made_by groups.entries in
     let number = c.args.number in
     let after = record c.mark.new.groups { counts = c.set_waits.new.counts } in
     let keep : ℕ → Bool = is_reached made (is_root (standings_of c.lose.new.counts.items)) in
@@ -73,7 +73,7 @@ pub returns-clause-kept : goal.returns-clause-kept
 returns-clause-kept c =
     let groups = c.args.groups.now in
     let after = record c.mark.new.groups { counts = c.set_waits.new.counts } in
-    let keep : ℕ → Bool = is_reached (made_by groups.entries.items) (is_root (standings_of c.lose.new.counts.items)) in
-    let marks = ap length c.mark.ensures.marks ∙ (length-marked keep groups.entries.items ∙ ap (λ (es : Vec RecGroupEntry Global). length es.items) (sym c.mark.ensures.entries)) in
+    let keep : ℕ → Bool = is_reached (made_by groups.entries) (is_root (standings_of c.lose.new.counts.items)) in
+    let marks = ap length c.mark.ensures.marks ∙ (length-marked keep groups.entries ∙ ap (λ (es : List RecGroupEntry). length es) (sym c.mark.ensures.entries)) in
     drop-keeps c.args.engine.now groups after c.args.party c.args.number (Some c.args.number) c.requires.kept c.requires.held c.mark.ensures.entries c.mark.ensures.given marks
     (returns-clause-dropped c)

@@ -15,7 +15,7 @@ use Rattle.wt_holds.proofs.removal.mark.Goals as goal
 pub returns-clause-marks : goal.returns-clause-marks
 returns-clause-marks c =
     let groups = c.args.groups.now in
-    let entries : List RecGroupEntry = groups.entries.items in
+    let entries : List RecGroupEntry = groups.entries in
     let made = made_by entries in
     let standings = standings_of groups.counts.items in
     let top : ℕ = groups.given.numbers in
@@ -29,7 +29,7 @@ returns-clause-marks c =
     let before : c.as_mut_slice-2.result.now ≡ marked root made =
     c.as_mut_slice-2.ensures.value
     ∙ (take_at c.mark_roots.new.marks (drop (length c.mark_roots.new.marks) groups.marks.items) groups.marks.len long ∙ rooted) in
-    let same : c.as_slice-2.result.now ≡ entries = c.as_slice-2.ensures.value in
+    let same : c.as_slice-2.result.now ≡ entries = c.as_slice-2.ensures in
     let reached : c.mark_reached.new.marks ≡ marked (is_reached made root) made =
     c.mark_reached.ensures.reached top root
     (subst (λ (es : List RecGroupEntry). IsRising 0 (made_by es) top) (sym same) c.requires.rising)

@@ -16,7 +16,7 @@ use Rattle.wt_holds.proofs.removal.release_groups.Goals as goal
 pub lose_each-requires-clause-parties : goal.lose_each-requires-clause-parties
 lose_each-requires-clause-parties c =
     let groups = c.args.groups.now in
-    has_place c.args.engine.now groups.counts.items c.args.party (counted c.args.engine.now (made_by groups.entries.items) (standings_of groups.counts.items) c.requires.kept.holds) c.requires.party
+    has_place c.args.engine.now groups.counts.items c.args.party (counted c.args.engine.now (made_by groups.entries) (standings_of groups.counts.items) c.requires.kept.holds) c.requires.party
 
 pub remove_unreached-requires : goal.remove_unreached-requires
 remove_unreached-requires c =

@@ -26,9 +26,9 @@ remove_unreached-requires c =
 
 pub overflow_sub-result : goal.overflow_sub-result
 overflow_sub-result c =
-    let entries = c.args.groups.now.entries.items in
+    let entries = c.args.groups.now.entries in
     let keep : ℕ → Bool = is_reached (made_by entries) (is_root (standings_of c.set_waits.new.counts.items)) in
-    omega (arith, ap length c.as_slice-before.ensures.value, ap length c.as_slice-then-waits.ensures.value, ap length c.remove_unreached.ensures.entries, filter_shorter (λ (e : RecGroupEntry). keep e.number) entries)
+    omega (arith, c.len-before.ensures, c.len.ensures, ap length c.remove_unreached.ensures.entries, filter_shorter (λ (e : RecGroupEntry). keep e.number) entries)
 
 pub returns-then-waits-clause-swept : goal.returns-then-waits-clause-swept
 returns-then-waits-clause-swept c = λ engine.
@@ -40,9 +40,9 @@ returns-then-waits-clause-swept c = λ engine.
     ap (λ (counts : List HoldCounts). waits_at (standings_of counts) number) (sym c.as_slice.ensures.value) ∙ (sym c.waits.ensures ∙ c.if-waits.true) in
     let part : swept_part old number ≡ registry_at engine new =
     ap (λ (standings : List GroupHolds). reached_part (counted_as engine groups standings)) (sym c.set_waits.ensures) ∙ c.remove_unreached.ensures.part engine in
-    let before : length old.made ≡ length c.as_slice-before.result.now = length-map groups.entries.items made_of ∙ ap length (sym c.as_slice-before.ensures.value) in
-    let after : length (swept_part old number).made ≡ length c.as_slice-then-waits.result.now =
-    ap (λ (r : Registry). length r.made) part ∙ (length-map new.entries.items made_of ∙ ap length (sym c.as_slice-then-waits.ensures.value)) in
+    let before : length old.made ≡ c.len-before.result = length-map groups.entries made_of ∙ sym c.len-before.ensures in
+    let after : length (swept_part old number).made ≡ c.len.result =
+    ap (λ (r : Registry). length r.made) part ∙ (length-map new.entries made_of ∙ sym c.len.ensures) in
     ap (sweep_answered old number) waits ∙ (λ i. (Removed (before i - after i), part i))
 
 pub returns-then-waits-clause-kept : goal.returns-then-waits-clause-kept

@@ -8,4 +8,4 @@ pub returns-in-Some : goal.returns-in-Some
 returns-in-Some c = find_first (λ entry. is_some (place_in c.args.index entry.shared_type_indices)) c.args.entries.now c.args.added.now c.in-Some.entry.now c.in-Some.ensures
 
 pub returns-in-None : goal.returns-in-None
-returns-in-None c = c.entry_of-in-None.ensures ∙ find_second (λ entry. is_some (place_in c.args.index entry.shared_type_indices)) c.args.entries.now c.args.added.now c.in-None.ensures
+returns-in-None c = c.find_index-in-None.ensures ∙ find_second (λ entry. is_some (place_in c.args.index entry.shared_type_indices)) c.args.entries.now c.args.added.now c.in-None.ensures

@@ -16,7 +16,7 @@ use Rattle.wt_plan.proofs.host_plan.plan_exception.Goals as goal
 pub plan_type-requires-clause-host : goal.plan_type-requires-clause-host
 plan_type-requires-clause-host c =
     let told = c.in_ok-plan.ensures in
-    subst (λ (ty : WasmSubType). is_host_type (closed_tree (made_by (c.args.entries.now ++ c.in_ok-plan.plan.added.items))) ty ≡ true) (sym c.in_ok-exception.ensures)
+    subst (λ (ty : WasmSubType). is_host_type (closed_tree (made_by (c.args.entries.now ++ c.in_ok-plan.plan.added))) ty ≡ true) (sym c.in_ok-exception.ensures)
     (exception-host c.args.entries.now c.args.given.numbers c.in_ok-plan.plan told.plans.0 c.in_ok-plan.index c.args.fields.now c.requires.keys told.plans.1 c.requires.host told.named)
 
 pub returns-clause-planned : goal.returns-clause-planned

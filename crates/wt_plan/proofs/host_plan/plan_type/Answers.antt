@@ -10,10 +10,10 @@ use Rattle.wt_plan.proofs.host_plan.plan_type.Goals as goal
 
 pub plan_key-requires-clause-named : goal.plan_key-requires-clause-named
 plan_key-requires-clause-named c =
-    let made = made_by (c.args.entries.now ++ c.args.plan.now.added.items) in
+    let made = made_by (c.args.entries.now ++ c.args.plan.now.added) in
     subst (AreResolved made) (sym c.in_ok-key.ensures) (known-resolved made c.args.ty (host-parts (closed_tree made) c.args.ty c.requires.host).known)
 
 pub plan_key-requires-clause-slots : goal.plan_key-requires-clause-slots
 plan_key-requires-clause-slots c =
-    let made = made_by (c.args.entries.now ++ c.args.plan.now.added.items) in
+    let made = made_by (c.args.entries.now ++ c.args.plan.now.added) in
     subst KeyNamesTypes (sym c.in_ok-key.ensures) (known-slots made c.args.ty (host-parts (closed_tree made) c.args.ty c.requires.host).known)

@@ -21,7 +21,7 @@ pub plan_key-requires-clause-named : goal.plan_key-requires-clause-named
 plan_key-requires-clause-named c =
     let plan = c.args.plan.now in
     let key = canonical_same c.args.start plan.map.items c.as_slice.result.now c.args.group.now.types c.as_slice-2.result.now c.in_ok-types.types c.requires.start c.as_slice.ensures.value c.as_slice-2.ensures c.in_ok-types.ensures in
-    subst (AreResolved (made_by (c.args.entries.now ++ plan.added.items))) (sym key) c.requires.named
+    subst (AreResolved (made_by (c.args.entries.now ++ plan.added))) (sym key) c.requires.named
 
 pub plan_key-requires-clause-slots : goal.plan_key-requires-clause-slots
 plan_key-requires-clause-slots c =

@@ -18,7 +18,7 @@ plan_checked-requires-clause-few c =
     count-within c.args.groups.now c.loop-number.number c.index-groups-number.result (length c.loop-number.plan.map.items) 4294967296 c.loop-number-test.true c.index-groups-number.is c.loop-number.invariant.plans.count c.requires.countable.few_members
 
 pub plan_checked-requires-clause-shown : goal.plan_checked-requires-clause-shown
-plan_checked-requires-clause-shown c = shown-joined c.args.entries.now c.loop-number.plan.added.items c.requires.shown c.loop-number.invariant.plans.shown
+plan_checked-requires-clause-shown c = shown-joined c.args.entries.now c.loop-number.plan.added c.requires.shown c.loop-number.invariant.plans.shown
 
 pub plan_checked-requires-clause-only : goal.plan_checked-requires-clause-only
 plan_checked-requires-clause-only c =

@@ -1,6 +1,5 @@
 -- a group that was there is tested already, and a new one by the indices that it has
-use Rattle.std.proofs.Common.{◌≡◌, List, length, sym, ap, ◌∙◌}
-use Rattle.wt_keys.specs.declared.entry.RecGroupEntry.{RecGroupEntry}
+use Rattle.std.proofs.Common.{◌≡◌, length, sym, ◌∙◌}
 use Rattle.wt_plan.specs.declared.plan.Plan.{Plan as PlanFields}
 use Rattle.wt_plan.specs.Planned.{key_of}
 use Rattle.wt_plan.proofs.CheckedGroups.{group-resolved, group-slots, shown-then, found-told, new-told, new-rules}
@@ -16,10 +15,10 @@ pub first_misnamed_from-requires-clause-shown : goal.first_misnamed_from-require
 first_misnamed_from-requires-clause-shown c =
     shown-then c.args.entries.now c.args.plan.now c.plan_group.new.plan (key_of c.args.plan.now c.args.group.now) c.in_ok-plan_group.ensures.one c.requires.shown
 
-pub returns-then-as_slice-before-clause-broken : goal.returns-then-as_slice-before-clause-broken
-returns-then-as_slice-before-clause-broken c known named =
-    let same : length c.plan_group.new.plan.added.items ≡ length c.args.plan.now.added.items =
-    ap (λ (es : List RecGroupEntry). length es) (sym c.as_slice.ensures.value) ∙ c.if-as_slice-before.true ∙ ap (λ (es : List RecGroupEntry). length es) c.as_slice-before.ensures.value in
+pub returns-then-len-before-clause-broken : goal.returns-then-len-before-clause-broken
+returns-then-len-before-clause-broken c known named =
+    let same : length c.plan_group.new.plan.added ≡ length c.args.plan.now.added =
+    sym c.len.ensures ∙ c.if-len-before.true ∙ c.len-before.ensures in
     found-told c.args.entries.now c.args.plan.now c.plan_group.new.plan c.args.group.now c.requires.only c.requires.keys c.in_ok-plan_group.ensures.one c.in_ok-plan_group.ensures.keys
     c.requires.named.0 c.requires.named.1 c.requires.rules same known named
 

@@ -1,5 +1,5 @@
 -- the search by keys is that of the definition, and a group that isn't there is new
-use Rattle.std.proofs.Common.{[], ◌++◌, Some, None, Result, Ok, Err, OnOk, refl, ap, ◌∙◌}
+use Rattle.std.proofs.Common.{[], ◌++◌, Result, Ok, Err, OnOk, refl, sym, ap, ◌∙◌}
 use Rattle.std.proofs.lemmas.Result.{on_ok_weaker}
 use Rattle.wt_env.specs.Equality.{rec_group_eq, rec_group_eq-exact}
 use Rattle.wt_env.specs.declared.types.WasmRecGroup.{WasmRecGroup}
@@ -7,7 +7,7 @@ use Rattle.wt_env.proofs.lists.Members.{find-found}
 use Rattle.wt_keys.specs.declared.entry.RecGroupEntry.{RecGroupEntry}
 use Rattle.wt_plan.specs.declared.plan.Plan.{Plan as PlanFields}
 use Rattle.wt_plan.proofs.GrownKeys.{plans-none}
-use Rattle.wt_plan.proofs.Planning.{found_among, planned-found, planned-new}
+use Rattle.wt_plan.proofs.Planning.{planned-found, planned-new}
 use Rattle.wt_plan.proofs.plan.plan_key.Goals as goal
 
 both_ok : {A E : Type 0} {P Q R : Type 0} (result : Result A E) → OnOk result P → OnOk result Q → (P → Q → R) → OnOk result R
@@ -16,7 +16,7 @@ both_ok (Err e) p q f = tt
 
 pub returns-in-Some-clause-ok : goal.returns-in-Some-clause-ok
 returns-in-Some-clause-ok c =
-    let is = found_among c.args.entries.now c.args.plan.now.added.items c.as_slice.result.now c.args.key (Some c.in-Some.entry.now) c.as_slice.ensures.value c.in-Some.ensures in
+    let is = sym c.in-Some.ensures in
     let after : PlanFields = record { added = c.args.plan.now.added; given = c.args.plan.now.given; numbers = c.add_occurrence.new.numbers; map = c.add_occurrence.new.map } in
     both_ok c.add_occurrence.result c.add_occurrence.ensures.numbers c.add_occurrence.ensures.map
     (λ numbers map_after.
@@ -24,9 +24,9 @@ returns-in-Some-clause-ok c =
 
 pub returns-in-Some-clause-one : goal.returns-in-Some-clause-one
 returns-in-Some-clause-one c =
-    let all = c.args.entries.now ++ c.args.plan.now.added.items in
+    let all = c.args.entries.now ++ c.args.plan.now.added in
     let after : PlanFields = record { added = c.args.plan.now.added; given = c.args.plan.now.given; numbers = c.add_occurrence.new.numbers; map = c.add_occurrence.new.map } in
-    let is = found_among c.args.entries.now c.args.plan.now.added.items c.as_slice.result.now c.args.key (Some c.in-Some.entry.now) c.as_slice.ensures.value c.in-Some.ensures in
+    let is = sym c.in-Some.ensures in
     let found = find-found (λ (e : RecGroupEntry). rec_group_eq e.hash_consing_key c.args.key) all c.in-Some.entry.now is in
     both_ok c.add_occurrence.result c.add_occurrence.ensures.numbers c.add_occurrence.ensures.map
     (λ numbers map_after. record {
@@ -42,10 +42,10 @@ returns-in-Some-clause-one c =
     })
 
 pub plan_new-requires-clause-new : goal.plan_new-requires-clause-new
-plan_new-requires-clause-new c = found_among c.args.entries.now c.args.plan.now.added.items c.as_slice.result.now c.args.key None c.as_slice.ensures.value c.in_default.ensures
+plan_new-requires-clause-new c = sym c.in_default.ensures
 
 pub returns-clause-ok : goal.returns-clause-ok
 returns-clause-ok c =
     on_ok_weaker c.plan_new.result
-    (λ is. planned-new c.args.entries.now c.args.plan.now c.args.key c.requires.keys c.requires.named (found_among c.args.entries.now c.args.plan.now.added.items c.as_slice.result.now c.args.key None c.as_slice.ensures.value c.in_default.ensures) ∙ is)
+    (λ is. planned-new c.args.entries.now c.args.plan.now c.args.key c.requires.keys c.requires.named (sym c.in_default.ensures) ∙ is)
     c.plan_new.ensures.ok

@@ -28,8 +28,8 @@ use Rattle.wt_registry.proofs.KeptGroups.{kept-same, room-left, can-carry, carri
 use Rattle.wt_registry.proofs.enter.check_and_commit.Goals as goal
 
 -- what was found, by the lists that were read, is the first limit that would be passed
-found_is : (engine : EngineParts) (groups : TypeRegistryInner) (read : List RecGroupEntry) (told : List HoldCounts) (plan : PlanFields) (party : ℕ) (found : Option Full) → read ≡ groups.entries.items → told ≡ groups.counts.items
-    → found ≡ passed_limit (registry_of engine read plan.given (standings_of told)) party (plan_of read plan) → passed_limit (registry_at engine groups) party (plan_of groups.entries.items plan) ≡ found
+found_is : (engine : EngineParts) (groups : TypeRegistryInner) (read : List RecGroupEntry) (told : List HoldCounts) (plan : PlanFields) (party : ℕ) (found : Option Full) → read ≡ groups.entries → told ≡ groups.counts.items
+    → found ≡ passed_limit (registry_of engine read plan.given (standings_of told)) party (plan_of read plan) → passed_limit (registry_at engine groups) party (plan_of groups.entries plan) ≡ found
 found_is engine groups read told plan party found same equal is =
     (λ i. passed_limit (registry_of engine ((sym same) i) plan.given (standings_of ((sym equal) i))) party (plan_of ((sym same) i) plan)) ∙ sym is
 
@@ -69,25 +69,30 @@ passed_limit-requires c = record {
 pub returns-in-Some-clause-refused : goal.returns-in-Some-clause-refused
 returns-in-Some-clause-refused c =
     inr (ap (option_map refusal.Full)
-    (found_is c.args.engine.now c.args.groups.now c.as_slice.result.now c.as_slice-2.result.now c.args.plan c.args.party c.in_ok-found.found c.as_slice.ensures.value c.as_slice-2.ensures.value c.in_ok-found.ensures
+    (found_is c.args.engine.now c.args.groups.now c.as_slice.result.now c.as_slice-2.result.now c.args.plan c.args.party c.in_ok-found.found c.as_slice.ensures c.as_slice-2.ensures.value c.in_ok-found.ensures
     ∙ c.in-Some.is))
 
-pub returns-in_err-reserve_groups-clause-kept : goal.returns-in_err-reserve_groups-clause-kept
-returns-in_err-reserve_groups-clause-kept c =
-    kept-same c.args.engine.now c.args.groups.now c.reserve_groups.new.groups c.requires.kept c.reserve_groups.ensures.entries c.reserve_groups.ensures.counts c.reserve_groups.ensures.marks c.reserve_groups.ensures.given
+pub returns-in_err-reserve_counts-clause-kept : goal.returns-in_err-reserve_counts-clause-kept
+returns-in_err-reserve_counts-clause-kept c =
+    kept-same c.args.engine.now c.args.groups.now c.reserve_counts.new.groups c.requires.kept c.reserve_counts.ensures.entries c.reserve_counts.ensures.counts c.reserve_counts.ensures.marks c.reserve_counts.ensures.given
 
-new_rows : (c : goal.After-insert_entries-arg-1) → standings_of c.in_ok-rows.rows.items ≡ map (new_holds c.args.engine.now) (made_by c.args.plan.added.items)
+pub returns-in_err-insert_entries-clause-kept : goal.returns-in_err-insert_entries-clause-kept
+returns-in_err-insert_entries-clause-kept c =
+    subst (AreKept c.args.engine.now) (sym c.in_err-insert_entries.ensures.err)
+    (kept-same c.args.engine.now c.args.groups.now c.reserve_counts.new.groups c.requires.kept c.reserve_counts.ensures.entries c.reserve_counts.ensures.counts c.reserve_counts.ensures.marks c.reserve_counts.ensures.given)
+
+new_rows : (c : goal.After-insert_entries-arg-1) → standings_of c.in_ok-rows.rows.items ≡ map (new_holds c.args.engine.now) (made_by c.args.plan.added)
 new_rows c =
-    rows_are c.args.engine.now c.limits.result.parties c.in_ok-rows.rows.items c.args.plan.added.items c.as_slice-3.result.now (ap (λ l. l.parties) c.limits.ensures.value) c.as_slice-3.ensures.value
+    rows_are c.args.engine.now c.limits.result.parties c.in_ok-rows.rows.items c.args.plan.added c.as_slice-3.result.now (ap (λ l. l.parties) c.limits.ensures.value) c.as_slice-3.ensures
     c.in_ok-rows.ensures.counts
 
 pub insert_entries-requires-clause-calm : goal.insert_entries-requires-clause-calm
-insert_entries-requires-clause-calm c = calm c.args.engine.now c.in_ok-rows.rows.items c.args.plan.added.items (new_rows c)
+insert_entries-requires-clause-calm c = calm c.args.engine.now c.in_ok-rows.rows.items c.args.plan.added (new_rows c)
 
 pub insert_entries-requires-clause-parties : goal.insert_entries-requires-clause-parties
 insert_entries-requires-clause-parties c =
     let engine = c.args.engine.now in
-    all_places engine c.args.groups.now.counts.items c.reserve_groups.new.groups.counts.items c.in_ok-rows.rows.items c.args.plan.added.items c.args.party c.requires.party c.reserve_groups.ensures.counts
+    all_places engine c.args.groups.now.counts.items c.reserve_counts.new.groups.counts.items c.in_ok-rows.rows.items c.args.plan.added c.args.party c.requires.party c.reserve_counts.ensures.counts
     (places engine c.args.groups.now c.args.party c.requires.kept c.requires.party) (new_rows c)
 
 pub insert_entries-requires-clause-room : goal.insert_entries-requires-clause-room
@@ -95,52 +100,56 @@ insert_entries-requires-clause-room c = λ number.
     let engine = c.args.engine.now in
     let groups = c.args.groups.now in
     let party = c.args.party in
-    let none = found_is engine groups c.as_slice.result.now c.as_slice-2.result.now c.args.plan party c.in_ok-found.found c.as_slice.ensures.value c.as_slice-2.ensures.value c.in_ok-found.ensures ∙ c.in_default.is in
-    let room = room-left (registry_at engine groups) party (plan_of groups.entries.items c.args.plan) c.requires.kept.holds.counted none number in
-    let held = held_then engine groups.counts.items c.reserve_groups.new.groups.counts.items c.in_ok-rows.rows.items c.args.plan.added.items party number c.reserve_groups.ensures.counts (new_rows c) in
+    let none = found_is engine groups c.as_slice.result.now c.as_slice-2.result.now c.args.plan party c.in_ok-found.found c.as_slice.ensures c.as_slice-2.ensures.value c.in_ok-found.ensures ∙ c.in_default.is in
+    let room = room-left (registry_at engine groups) party (plan_of groups.entries c.args.plan) c.requires.kept.holds.counted none number in
+    let held = held_then engine groups.counts.items c.reserve_counts.new.groups.counts.items c.in_ok-rows.rows.items c.args.plan.added party number c.reserve_counts.ensures.counts (new_rows c) in
     let bound : c.limits.result.holds ≡ engine.limits.holds = ap (λ l. l.holds) c.limits.ensures.value in
     let greatest : c.limits.result.holds ≤ 2 ^ 30 = (c.limits.ensures.valid).holds in
     omega (arith, room, held, bound, greatest)
 
 pub returns-clause-accepted : goal.returns-clause-accepted
 returns-clause-accepted c =
-    found_is c.args.engine.now c.args.groups.now c.as_slice.result.now c.as_slice-2.result.now c.args.plan c.args.party c.in_ok-found.found c.as_slice.ensures.value c.as_slice-2.ensures.value c.in_ok-found.ensures
+    found_is c.args.engine.now c.args.groups.now c.as_slice.result.now c.as_slice-2.result.now c.args.plan c.args.party c.in_ok-found.found c.as_slice.ensures c.as_slice-2.ensures.value c.in_ok-found.ensures
     ∙ c.in_default.is
 
 -- ---- what is entered
 
-entered : (c : goal.After-insert_entries) → c.insert_entries.new.groups.entries.items ≡ c.args.groups.now.entries.items ++ c.args.plan.added.items
-entered c = c.insert_entries.ensures.entries ∙ ap (λ es. es ++ c.args.plan.added.items) c.reserve_groups.ensures.entries
-
-counted : (c : goal.After-insert_entries)
-    → standings_of c.insert_entries.new.groups.counts.items
-    ≡ hold_each c.args.party c.args.plan.numbers.items
-    (stop_waiting_each (made_by c.args.plan.added.items) (standings_of c.args.groups.now.counts.items) ++ map (new_holds c.args.engine.now) (made_by c.args.plan.added.items))
-counted c =
-    let stood = c.reserve_groups.ensures.counts in
-    let are =
-    rows_are c.args.engine.now c.limits.result.parties c.in_ok-rows.rows.items c.args.plan.added.items c.as_slice-3.result.now (ap (λ l. l.parties) c.limits.ensures.value) c.as_slice-3.ensures.value
-    c.in_ok-rows.ensures.counts in
-    c.insert_entries.ensures.counts ∙ (λ i. hold_each c.args.party c.args.plan.numbers.items (stop_waiting_each (made_by c.args.plan.added.items) (standings_of (stood i)) ++ are i))
+counted : (engine : EngineParts) (parties party : ℕ) (numbers : List ℕ) (rows stood counts after : List HoldCounts) (added read : List RecGroupEntry) → stood ≡ counts → parties ≡ engine.limits.parties → read ≡ added
+    → ((e : EngineParts) → e.limits.parties ≡ parties → standings_of rows ≡ map (new_holds e) (made_by read))
+    → standings_of after ≡ hold_each party numbers (stop_waiting_each (made_by added) (standings_of stood) ++ standings_of rows)
+    → standings_of after ≡ hold_each party numbers (stop_waiting_each (made_by added) (standings_of counts) ++ map (new_holds engine) (made_by added))
+counted engine parties party numbers rows stood counts after added read same equal all are is =
+    let rows_stand = rows_are engine parties rows added read equal all are in
+    is ∙ (λ i. hold_each party numbers (stop_waiting_each (made_by added) (standings_of (same i)) ++ rows_stand i))
 
 pub returns-clause-ok : goal.returns-clause-ok
 returns-clause-ok c =
+    let entered = c.in_ok-insert_entries.ensures.entries ∙ ap (λ es. es ++ c.args.plan.added) c.reserve_counts.ensures.entries in
+    let stand =
+    counted c.args.engine.now c.limits.result.parties c.args.party c.args.plan.numbers.items c.in_ok-rows.rows.items c.reserve_counts.new.groups.counts.items c.args.groups.now.counts.items
+    c.insert_entries.new.groups.counts.items c.args.plan.added c.as_slice-3.result.now c.reserve_counts.ensures.counts (ap (λ l. l.parties) c.limits.ensures.value) c.as_slice-3.ensures
+    c.in_ok-rows.ensures.counts c.in_ok-insert_entries.ensures.counts in
     carried-at c.args.engine.now c.args.groups.now c.args.plan c.args.party c.requires.kept c.requires.party c.requires.keys c.requires.occurs (returns-clause-accepted c) c.insert_entries.new.groups
-    (entered c) c.insert_entries.ensures.given (counted c)
+    entered c.in_ok-insert_entries.ensures.given stand
 
 pub returns-clause-kept : goal.returns-clause-kept
 returns-clause-kept c =
+    let entered = c.in_ok-insert_entries.ensures.entries ∙ ap (λ es. es ++ c.args.plan.added) c.reserve_counts.ensures.entries in
+    let stand =
+    counted c.args.engine.now c.limits.result.parties c.args.party c.args.plan.numbers.items c.in_ok-rows.rows.items c.reserve_counts.new.groups.counts.items c.args.groups.now.counts.items
+    c.insert_entries.new.groups.counts.items c.args.plan.added c.as_slice-3.result.now c.reserve_counts.ensures.counts (ap (λ l. l.parties) c.limits.ensures.value) c.as_slice-3.ensures
+    c.in_ok-rows.ensures.counts c.in_ok-insert_entries.ensures.counts in
     kept-carried c.args.engine.now c.args.groups.now c.args.plan c.args.party c.requires.kept c.requires.party c.requires.keys c.requires.occurs (returns-clause-accepted c) c.insert_entries.new.groups
-    (entered c) c.insert_entries.ensures.given (counted c)
+    entered c.in_ok-insert_entries.ensures.given stand
     c.requires.rules c.requires.shown c.requires.below
-    (c.insert_entries.ensures.marks ∙ ap (λ ms. length ms + length c.args.plan.added.items) c.reserve_groups.ensures.marks)
+    (c.in_ok-insert_entries.ensures.marks ∙ ap (λ ms. length ms + length c.args.plan.added) c.reserve_counts.ensures.marks)
 
 pub returns-clause-changes : goal.returns-clause-changes
 returns-clause-changes c =
     let engine = c.args.engine.now in
     let groups = c.args.groups.now in
     let plan = c.args.plan in
-    subst (HoldChanges (registry_at engine groups) (registry_at engine c.insert_entries.new.groups) c.args.party) (sym c.insert_entries.ensures.numbers)
+    subst (HoldChanges (registry_at engine groups) (registry_at engine c.insert_entries.new.groups) c.args.party) (sym c.in_ok-insert_entries.ensures.numbers)
     (subst (λ (new : Registry). HoldChanges (registry_at engine groups) new c.args.party plan.numbers.items) (returns-clause-ok c)
-    (carried-changes (registry_at engine groups) c.args.party (plan_of groups.entries.items plan) refl
+    (carried-changes (registry_at engine groups) c.args.party (plan_of groups.entries plan) refl
     (can-carry engine groups plan c.args.party c.requires.kept c.requires.party c.requires.keys c.requires.occurs (returns-clause-accepted c))))

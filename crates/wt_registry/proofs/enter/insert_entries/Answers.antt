@@ -1,6 +1,6 @@
 -- the new counts don't wait, so what is called are the others
-use Rattle.std.proofs.Common.{◌≡◌, ℕ, ◌<◌, false, List, ◌++◌, length, sym, ap, subst, ◌∙◌, arith}
-use Rattle.std.proofs.lemmas.List.{map-append}
+use Rattle.std.proofs.Common.{◌≡◌, ℕ, ◌<◌, false, List, ◌++◌, length, drop, refl, sym, ap, subst, ◌∙◌, arith}
+use Rattle.std.proofs.lemmas.List.{map-append, drop_at}
 use Rattle.wt_holds.specs.declared.hold_counts.HoldCounts.{HoldCounts}
 use Rattle.wt_keys.specs.declared.entry.RecGroupEntry.{RecGroupEntry}
 use Rattle.wt_model.specs.Registered.{GroupHolds}
@@ -31,20 +31,25 @@ placed party counts moved after read same is places =
     let before = places_stand party moved (subst (HavePlaces party) (sym same) places) in
     stand_places party after (λ s at. holds-stop_waiting_each (λ holds. party < length holds) (made_by read) (standings_of moved) before s (subst (Among s) is at))
 
+-- what stands behind those before is what was added
+new_behind : (entries added joined read : List RecGroupEntry) (before : ℕ) → joined ≡ entries ++ added → before ≡ length entries → read ≡ drop before joined → read ≡ added
+new_behind entries added joined read before joins at is =
+    is ∙ (λ i. drop (at i) (joins i)) ∙ drop_at entries added (length entries) refl
+
 pub hold_each-requires-clause-parties : goal.hold_each-requires-clause-parties
 hold_each-requires-clause-parties c =
-    placed c.args.party (c.args.groups.now.counts.items ++ c.args.rows.items) c.move_all.new.items.items c.stop_waiting_each.new.counts.items c.as_slice.result.now c.move_all.ensures c.stop_waiting_each.ensures c.requires.parties
+    placed c.args.party (c.args.groups.now.counts.items ++ c.args.rows.items) c.move_all.new.items.items c.stop_waiting_each.new.counts.items c.behind.result.now c.move_all.ensures c.stop_waiting_each.ensures c.requires.parties
 
 pub hold_each-requires-clause-room : goal.hold_each-requires-clause-room
 hold_each-requires-clause-room c = λ number.
-    let counts = stood c.args.groups.now.counts.items c.args.rows.items c.move_all.new.items.items c.stop_waiting_each.new.counts.items c.args.plan.added.items c.as_slice.result.now c.move_all.ensures c.as_slice.ensures.value c.stop_waiting_each.ensures c.requires.calm in
+    let counts = stood c.args.groups.now.counts.items c.args.rows.items c.move_all.new.items.items c.stop_waiting_each.new.counts.items c.args.plan.added c.behind.result.now c.move_all.ensures (new_behind c.args.groups.now.entries c.args.plan.added c.append.new.self c.behind.result.now c.len-before.result c.in_ok-append.ensures.ok c.len-before.ensures c.behind.ensures) c.stop_waiting_each.ensures c.requires.calm in
     let held = ap (λ standings. held_at standings c.args.party number) counts in
-    let more = ap (times number) c.as_slice-2.ensures.value in
+    let more = ap (times number) c.as_slice.ensures.value in
     let room = c.requires.room number in
     omega (arith, held, more, room)
 
 pub returns-clause-counts : goal.returns-clause-counts
 returns-clause-counts c =
-    let counts = stood c.args.groups.now.counts.items c.args.rows.items c.move_all.new.items.items c.stop_waiting_each.new.counts.items c.args.plan.added.items c.as_slice.result.now c.move_all.ensures c.as_slice.ensures.value c.stop_waiting_each.ensures c.requires.calm in
-    let numbers = c.as_slice-2.ensures.value in
+    let counts = stood c.args.groups.now.counts.items c.args.rows.items c.move_all.new.items.items c.stop_waiting_each.new.counts.items c.args.plan.added c.behind.result.now c.move_all.ensures (new_behind c.args.groups.now.entries c.args.plan.added c.append.new.self c.behind.result.now c.len-before.result c.in_ok-append.ensures.ok c.len-before.ensures c.behind.ensures) c.stop_waiting_each.ensures c.requires.calm in
+    let numbers = c.as_slice.ensures.value in
     c.hold_each.ensures ∙ (λ i. hold_each c.args.party (numbers i) (counts i))

@@ -18,7 +18,7 @@ returns-in-Some c =
     let standings = standings_of c.args.counts.now in
     let told =
     c.in_ok-full.ensures
-    ∙ (λ i. first_full (wanted_of ((c.limits-limits.ensures.value) i) (made_by (c.args.entries.now ++ (c.as_slice-added.ensures.value) i)) c.args.plan.now.given.numbers))
+    ∙ (λ i. first_full (wanted_of ((c.limits-limits.ensures.value) i) (made_by (c.args.entries.now ++ (c.as_slice-added.ensures) i)) c.args.plan.now.given.numbers))
     ∙ ap (λ (made : List RegisteredGroup). first_full (wanted_of limits made c.args.plan.now.given.numbers)) (sym (groups_of-joined c.args.entries.now c.args.plan.now)) in
     sym (first_full-first (wanted_of limits (groups_of plan) plan.given.numbers) (holds_wanted limits standings c.args.party plan.numbers plan.numbers) c.in-Some.full (sym told ∙ c.in-Some.is))
 
@@ -29,7 +29,7 @@ returns-in-None c =
     let standings = standings_of c.args.counts.now in
     let told =
     c.in_ok-full.ensures
-    ∙ (λ i. first_full (wanted_of ((c.limits-limits.ensures.value) i) (made_by (c.args.entries.now ++ (c.as_slice-added.ensures.value) i)) c.args.plan.now.given.numbers))
+    ∙ (λ i. first_full (wanted_of ((c.limits-limits.ensures.value) i) (made_by (c.args.entries.now ++ (c.as_slice-added.ensures) i)) c.args.plan.now.given.numbers))
     ∙ ap (λ (made : List RegisteredGroup). first_full (wanted_of limits made c.args.plan.now.given.numbers)) (sym (groups_of-joined c.args.entries.now c.args.plan.now)) in
     let none : first_full (wanted_of limits (groups_of plan) plan.given.numbers) ≡ None = sym told ∙ c.in-None.is in
     IfOk-weaker c.passed_hold.result _ _

@@ -20,21 +20,14 @@ fn first_type() -> EngineOrModuleTypeIndex {
     EngineOrModuleTypeIndex::Module(ModuleInternedTypeIndex(0))
 }
 
-/// The open type of this shape, below none.
-fn open_type(composite_type: WasmCompositeInnerType) -> WasmSubType {
+/// The open type of this shape, below this type of the module or none.
+fn open_type(supertype: Option<u32>, composite_type: WasmCompositeInnerType) -> WasmSubType {
+    let supertype = supertype.map(|index| EngineOrModuleTypeIndex::Module(ModuleInternedTypeIndex(
+        index,
+    )));
     WasmSubType {
         is_final: false,
-        supertype: None,
-        composite_type,
-    }
-}
-
-/// The open type of this shape, below a type of the module.
-fn open_below(supertype: u32, composite_type: WasmCompositeInnerType) -> WasmSubType {
-    let supertype = EngineOrModuleTypeIndex::Module(ModuleInternedTypeIndex(supertype));
-    WasmSubType {
-        is_final: false,
-        supertype: Some(supertype),
+        supertype,
         composite_type,
     }
 }
@@ -59,22 +52,15 @@ fn structure_of(
     Ok(WasmCompositeInnerType::Struct(WasmStructType { fields }))
 }
 
-/// The function of one parameter, without results.
-fn function_of(alloc: Global, param: WasmValType) -> Result<WasmCompositeInnerType, OutOfMemory> {
-    Ok(WasmCompositeInnerType::Func(WasmFuncType {
-        params: Seq::one(alloc, param)?,
-        results: Seq::new(alloc),
-    }))
-}
-
-/// The function of one result, without parameters.
-fn function_to(
+/// The function that takes values of these types and gives those.
+fn function_of(
     alloc: Global,
-    returned: WasmValType,
+    params: &[WasmValType],
+    results: &[WasmValType],
 ) -> Result<WasmCompositeInnerType, OutOfMemory> {
     Ok(WasmCompositeInnerType::Func(WasmFuncType {
-        params: Seq::new(alloc),
-        results: Seq::one(alloc, returned)?,
+        params: Seq::from_vec(Vec::from_slice(alloc, params)?),
+        results: Seq::from_vec(Vec::from_slice(alloc, results)?),
     }))
 }
 
@@ -119,11 +105,11 @@ fn breaks(rt: &impl Abort, alloc: Global, types: &ModuleTypes, rule: Rule) {
 fn a_supertype_is_open_and_of_the_kind(rt: HostRuntime) -> Result<(), Fail> {
     let alloc = rt.alloc();
     let supertype = final_type(structure_of(alloc, &[])?);
-    let subtype = open_below(0, structure_of(alloc, &[])?);
+    let subtype = open_type(Some(0), structure_of(alloc, &[])?);
     let types = module_of(alloc, supertype, subtype)?;
     breaks(&rt, alloc, &types, Rule::SuperFinal);
-    let supertype = open_type(function_of(alloc, EQ_REF)?);
-    let subtype = open_below(0, structure_of(alloc, &[EQ_REF])?);
+    let supertype = open_type(None, function_of(alloc, &[EQ_REF], &[])?);
+    let subtype = open_type(Some(0), structure_of(alloc, &[EQ_REF])?);
     let types = module_of(alloc, supertype, subtype)?;
     breaks(&rt, alloc, &types, Rule::SuperKind);
     Ok(())
@@ -132,12 +118,12 @@ fn a_supertype_is_open_and_of_the_kind(rt: HostRuntime) -> Result<(), Fail> {
 #[test]
 fn a_shape_matches_that_of_the_supertype(rt: HostRuntime) -> Result<(), Fail> {
     let alloc = rt.alloc();
-    let supertype = open_type(structure_of(alloc, &[EQ_REF])?);
-    let subtype = open_below(0, structure_of(alloc, &[ANY_REF])?);
+    let supertype = open_type(None, structure_of(alloc, &[EQ_REF])?);
+    let subtype = open_type(Some(0), structure_of(alloc, &[ANY_REF])?);
     let types = module_of(alloc, supertype, subtype)?;
     breaks(&rt, alloc, &types, Rule::SuperMismatch);
-    let supertype = open_type(function_of(alloc, ANY_REF)?);
-    let subtype = open_below(0, function_of(alloc, EQ_REF)?);
+    let supertype = open_type(None, function_of(alloc, &[ANY_REF], &[])?);
+    let subtype = open_type(Some(0), function_of(alloc, &[EQ_REF], &[])?);
     let types = module_of(alloc, supertype, subtype)?;
     breaks(&rt, alloc, &types, Rule::SuperMismatch);
     Ok(())
@@ -146,8 +132,8 @@ fn a_shape_matches_that_of_the_supertype(rt: HostRuntime) -> Result<(), Fail> {
 #[test]
 fn an_exception_is_final(rt: HostRuntime) -> Result<(), Fail> {
     let alloc = rt.alloc();
-    let function = final_type(function_of(alloc, WasmValType::I32)?);
-    let exception = open_type(exception_of(alloc, &[WasmValType::I32])?);
+    let function = final_type(function_of(alloc, &[WasmValType::I32], &[])?);
+    let exception = open_type(None, exception_of(alloc, &[WasmValType::I32])?);
     let types = module_of(alloc, function, exception)?;
     breaks(&rt, alloc, &types, Rule::ExnOpen);
     Ok(())
@@ -156,11 +142,11 @@ fn an_exception_is_final(rt: HostRuntime) -> Result<(), Fail> {
 #[test]
 fn an_exception_holds_the_parameters_of_its_function(rt: HostRuntime) -> Result<(), Fail> {
     let alloc = rt.alloc();
-    let function = final_type(function_to(alloc, WasmValType::I32)?);
+    let function = final_type(function_of(alloc, &[], &[WasmValType::I32])?);
     let exception = final_type(exception_of(alloc, &[])?);
     let types = module_of(alloc, function, exception)?;
     breaks(&rt, alloc, &types, Rule::ExnResults);
-    let function = final_type(function_of(alloc, WasmValType::I32)?);
+    let function = final_type(function_of(alloc, &[WasmValType::I32], &[])?);
     let exception = final_type(exception_of(alloc, &[WasmValType::I64])?);
     let types = module_of(alloc, function, exception)?;
     breaks(&rt, alloc, &types, Rule::ExnFields);
@@ -170,7 +156,7 @@ fn an_exception_holds_the_parameters_of_its_function(rt: HostRuntime) -> Result<
 #[test]
 fn an_exception_and_a_continuation_are_taken(rt: HostRuntime) -> Result<(), Fail> {
     let alloc = rt.alloc();
-    let function = final_type(function_of(alloc, WasmValType::I32)?);
+    let function = final_type(function_of(alloc, &[WasmValType::I32], &[])?);
     let exception = final_type(exception_of(alloc, &[WasmValType::I32])?);
     let mut types = module_of(alloc, function, exception)?;
     let continuation = WasmCompositeInnerType::Cont(WasmContType(first_type()));
@@ -190,9 +176,9 @@ fn an_exception_and_a_continuation_are_taken(rt: HostRuntime) -> Result<(), Fail
 
 /// Three open structs in a chain: the second has a field of a lower type, and the third one field more.
 fn deeper_and_wider(alloc: Global) -> Result<ModuleTypes, OutOfMemory> {
-    let first = open_type(structure_of(alloc, &[ANY_REF])?);
-    let second = open_below(0, structure_of(alloc, &[EQ_REF])?);
-    let third = open_below(1, structure_of(alloc, &[EQ_REF, WasmValType::I32])?);
+    let first = open_type(None, structure_of(alloc, &[ANY_REF])?);
+    let second = open_type(Some(0), structure_of(alloc, &[EQ_REF])?);
+    let third = open_type(Some(1), structure_of(alloc, &[EQ_REF, WasmValType::I32])?);
     let mut types = module_of(alloc, first, second)?;
     types.groups.push(WasmRecGroup::alone(alloc, third)?)?;
     Ok(types)

@@ -1,5 +1,5 @@
 -- a plan of one type of a host, carried out
-use Rattle.std.proofs.Common.{◌≡◌, List, ◌∷◌, [], true, sym, ap, subst, ◌∙◌}
+use Rattle.std.proofs.Common.{◌≡◌, List, ◌∷◌, [], true, refl, sym, ap, subst, ◌∙◌}
 use Rattle.std.proofs.lemmas.Result.{on_ok_weaker}
 use Rattle.wt_rules.specs.HostTypes.{is_host_type}
 use Rattle.wt_model.specs.Registered.{RegisteredGroup, Registry}
@@ -7,7 +7,6 @@ use Rattle.wt_model.specs.Indices.{closed_tree}
 use Rattle.wt_model.specs.Plan.{Plan, plan_key}
 use Rattle.wt_model.specs.Registration.{host_type, registration_plan, IsRefusal}
 use Rattle.wt_model.specs.Sound.{IsSound}
-use Rattle.wt_keys.specs.Entries.{made_by}
 use Rattle.wt_plan.specs.Planned.{plan_of}
 use Rattle.wt_holds.specs.Kept.{registry_at}
 use Rattle.wt_registry.proofs.HostRegistrations.{refused-before, planned-at, if_ok, both_ok, if_err, refusal-is, accepts, registers, names}
@@ -26,12 +25,12 @@ returns-in_err-plan-clause-sound c = subst IsSound c.registry.view_is (sound c.r
 pub plan_host_type-requires-clause-host : goal.plan_host_type-requires-clause-host
 plan_host_type-requires-clause-host c =
     subst (λ (made : List RegisteredGroup). is_host_type (closed_tree made) c.args.ty ≡ true)
-    (sym (ap made_by c.as_slice-entries.ensures.value ∙ ap (λ (r : Registry). r.made) c.registry.view_is)) c.requires.host
+    (ap (λ (r : Registry). r.made) (sym c.registry.view_is)) c.requires.host
 
-planned : (c : goal.After-commit_host) → registration_plan c.args.registry.now (host_type c.args.ty) ≡ plan_of c.registry.inside.groups.entries.items c.in_ok-plan.plan
+planned : (c : goal.After-commit_host) → registration_plan c.args.registry.now (host_type c.args.ty) ≡ plan_of c.registry.inside.groups.entries c.in_ok-plan.plan
 planned c =
-    planned-at (λ (p : Plan). plan_key p (c.args.ty ∷ [])) c.registry.inside.engine c.registry.inside.groups c.as_slice-entries.result.now c.in_ok-plan.plan c.args.registry.now
-    c.as_slice-entries.ensures.value c.registry.view_is c.in_ok-plan.ensures.planned
+    planned-at (λ (p : Plan). plan_key p (c.args.ty ∷ [])) c.registry.inside.engine c.registry.inside.groups c.registry.inside.groups.entries c.in_ok-plan.plan c.args.registry.now
+    refl c.registry.view_is c.in_ok-plan.ensures.planned
 
 pub returns-clause-ok : goal.returns-clause-ok
 returns-clause-ok c =
@@ -56,8 +55,8 @@ pub returns-clause-named : goal.returns-clause-named
 returns-clause-named c =
     if_ok c.commit_host.result c.commit_host.ensures.ok c.commit_host.ensures.only
     (λ hold carried only.
-    names c.registry.inside.engine c.registry.inside.groups c.commit_host.new.groups c.as_slice-entries.result.now c.in_ok-plan.plan c.args.registry.now (host_type c.args.ty) c.number.result hold.index
-    c.as_slice-entries.ensures.value c.registry.view_is c.in_ok-plan.ensures.named only carried)
+    names c.registry.inside.engine c.registry.inside.groups c.commit_host.new.groups c.registry.inside.groups.entries c.in_ok-plan.plan c.args.registry.now (host_type c.args.ty) c.number.result hold.index
+    refl c.registry.view_is c.in_ok-plan.ensures.named only carried)
 
 pub returns-clause-sound : goal.returns-clause-sound
 returns-clause-sound c = sound c.registry.inside.engine c.commit_host.new.groups c.commit_host.ensures.kept

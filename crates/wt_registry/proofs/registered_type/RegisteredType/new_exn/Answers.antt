@@ -1,5 +1,5 @@
 -- a plan of an exception of a host, carried out
-use Rattle.std.proofs.Common.{◌≡◌, None, inl, sym, ap, subst, ◌∙◌}
+use Rattle.std.proofs.Common.{◌≡◌, None, inl, refl, sym, ap, subst, ◌∙◌}
 use Rattle.std.specs.Option.{option_or}
 use Rattle.std.proofs.lemmas.Result.{on_ok_weaker}
 use Rattle.wt_model.specs.Registered.{Registry}
@@ -19,10 +19,10 @@ returns-then-not-gc-clause-sound c = subst IsSound c.registry.view_is (sound c.r
 pub returns-in_err-plan-clause-sound : goal.returns-in_err-plan-clause-sound
 returns-in_err-plan-clause-sound c = subst IsSound c.registry.view_is (sound c.registry.inside.engine c.registry.inside.groups c.registry.invariant)
 
-planned : (c : goal.After-commit_host) → registration_plan c.args.registry.now (host_exception c.args.fields.now) ≡ plan_of c.registry.inside.groups.entries.items c.in_ok-plan.plan
+planned : (c : goal.After-commit_host) → registration_plan c.args.registry.now (host_exception c.args.fields.now) ≡ plan_of c.registry.inside.groups.entries c.in_ok-plan.plan
 planned c =
-    planned-at (λ (p : Plan). plan_exception p c.args.fields.now) c.registry.inside.engine c.registry.inside.groups c.as_slice-entries.result.now c.in_ok-plan.plan c.args.registry.now
-    c.as_slice-entries.ensures.value c.registry.view_is c.in_ok-plan.ensures.planned
+    planned-at (λ (p : Plan). plan_exception p c.args.fields.now) c.registry.inside.engine c.registry.inside.groups c.registry.inside.groups.entries c.in_ok-plan.plan c.args.registry.now
+    refl c.registry.view_is c.in_ok-plan.ensures.planned
 
 -- the engine has garbage collection
 clear : (c : goal.After-commit_host) → option_or (rule_refusal c.args.registry.now (host_exception c.args.fields.now)) (gc_refusal c.args.registry.now (host_exception c.args.fields.now)) ≡ None
@@ -53,8 +53,8 @@ pub returns-clause-named : goal.returns-clause-named
 returns-clause-named c =
     if_ok c.commit_host.result c.commit_host.ensures.ok c.commit_host.ensures.only
     (λ hold carried only.
-    names c.registry.inside.engine c.registry.inside.groups c.commit_host.new.groups c.as_slice-entries.result.now c.in_ok-plan.plan c.args.registry.now (host_exception c.args.fields.now) c.number.result hold.index
-    c.as_slice-entries.ensures.value c.registry.view_is c.in_ok-plan.ensures.named only carried)
+    names c.registry.inside.engine c.registry.inside.groups c.commit_host.new.groups c.registry.inside.groups.entries c.in_ok-plan.plan c.args.registry.now (host_exception c.args.fields.now) c.number.result hold.index
+    refl c.registry.view_is c.in_ok-plan.ensures.named only carried)
 
 pub returns-clause-sound : goal.returns-clause-sound
 returns-clause-sound c = sound c.registry.inside.engine c.commit_host.new.groups c.commit_host.ensures.kept

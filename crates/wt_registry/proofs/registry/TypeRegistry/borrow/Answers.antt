@@ -1,16 +1,13 @@
 -- an index has a sub type exactly where it is located
-use Rattle.std.proofs.Common.{◌≡◌, is_some, sym, ap, subst, ◌∙◌}
+use Rattle.std.proofs.Common.{◌≡◌, is_some, sym, ap, ◌∙◌}
 use Rattle.wt_model.specs.Registered.{Registry}
 use Rattle.wt_model.specs.Indices.{locate}
-use Rattle.wt_keys.specs.Entries.{made_by}
-use Rattle.wt_model.specs.Shown.{sub_type_at}
 use Rattle.wt_model.proofs.trees.KnownTrees.{is_some-map}
-use Rattle.wt_keys.specs.Keys.{AreShown}
 use Rattle.wt_keys.proofs.Borrowed.{borrowed-located}
 use Rattle.wt_registry.proofs.registry.TypeRegistry.borrow.Goals as goal
 
 pub borrow_from-requires-clause-shown : goal.borrow_from-requires-clause-shown
-borrow_from-requires-clause-shown c = subst AreShown (sym c.as_slice.ensures.value) c.self.invariant.shown
+borrow_from-requires-clause-shown c = c.self.invariant.shown
 
 pub returns-clause-found : goal.returns-clause-found
 returns-clause-found c =
@@ -19,7 +16,6 @@ returns-clause-found c =
     let same : is_some c.borrow_from.result ≡ is_some (locate c.args.self.now.made i) =
     sym (is_some-map (λ x. x.now) c.borrow_from.result)
     ∙ ap is_some c.borrow_from.ensures
-    ∙ ap (λ es. is_some (sub_type_at (made_by es) i)) c.as_slice.ensures.value
-    ∙ borrowed-located groups.entries.items groups.given.numbers i c.self.invariant.keys
+    ∙ borrowed-located groups.entries groups.given.numbers i c.self.invariant.keys
     ∙ ap (λ (r : Registry). is_some (locate r.made i)) c.self.view_is in
     ((λ found. sym same ∙ found), (λ found. same ∙ found))

@@ -19,8 +19,8 @@ invariant_of-self c =
       marks = kept.marks;
       below = kept.below;
       holds =
-          hold-keeps c.hold_one.result c.self.inside.engine groups.given.numbers (made_by groups.entries.items) groups.counts.items c.hold_one.new.counts.items c.args.party c.args.number
-          kept.keys.rising (names_older groups.entries.items groups.given.numbers kept.keys) kept.holds
+          hold-keeps c.hold_one.result c.self.inside.engine groups.given.numbers (made_by groups.entries) groups.counts.items c.hold_one.new.counts.items c.args.party c.args.number
+          kept.keys.rising (names_older groups.entries groups.given.numbers kept.keys) kept.holds
           (subst (λ (registry : Registry). c.args.party < registry.engine.limits.parties) (sym c.self.view_is) c.requires)
           c.hold_one.ensures.allowed c.hold_one.ensures.err;
     }

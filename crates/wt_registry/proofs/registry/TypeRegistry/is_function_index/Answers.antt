@@ -10,15 +10,14 @@ use Rattle.wt_registry.proofs.registry.TypeRegistry.is_function_index.Goals as g
 pub returns-clause-trampoline : goal.returns-clause-trampoline
 returns-clause-trampoline c =
     c.is_some.ensures ∙ ap is_some c.trampoline_of.ensures
-    ∙ ap (λ es. is_some (trampoline_index (made_by es) c.args.index)) c.as_slice.ensures.value
     ∙ ap (λ (r : Registry). is_some (trampoline_index r.made c.args.index)) c.self.view_is
 
 pub returns-clause-function : goal.returns-clause-function
 returns-clause-function c =
     let groups = c.self.inside.groups in
     let i = c.args.index in
-    let same : c.is_some.result ≡ is_some (trampoline_index (made_by groups.entries.items) i) =
+    let same : c.is_some.result ≡ is_some (trampoline_index (made_by groups.entries) i) =
     returns-clause-trampoline c ∙ ap (λ (r : Registry). is_some (trampoline_index r.made i)) (sym c.self.view_is) in (
-      λ found. subst (λ (r : Registry). IsFunctionIndex r.made i) c.self.view_is (trampoline-function groups.entries.items groups.given.numbers c.self.invariant.keys i (sym same ∙ found)),
-      λ named. same ∙ function-trampoline groups.entries.items groups.given.numbers c.self.invariant.keys i (subst (λ (r : Registry). IsFunctionIndex r.made i) (sym c.self.view_is) named),
+      λ found. subst (λ (r : Registry). IsFunctionIndex r.made i) c.self.view_is (trampoline-function groups.entries groups.given.numbers c.self.invariant.keys i (sym same ∙ found)),
+      λ named. same ∙ function-trampoline groups.entries groups.given.numbers c.self.invariant.keys i (subst (λ (r : Registry). IsFunctionIndex r.made i) (sym c.self.view_is) named),
     )

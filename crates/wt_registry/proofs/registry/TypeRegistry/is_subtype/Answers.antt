@@ -1,5 +1,5 @@
 -- the walk over the entries tells of the registry's closed trees
-use Rattle.std.proofs.Common.{◌≡◌, sym, ap, subst, ◌∙◌}
+use Rattle.std.proofs.Common.{◌≡◌, sym, ap, ◌∙◌}
 use Rattle.wt_env.specs.declared.types.VMSharedTypeIndex.{VMSharedTypeIndex}
 use Rattle.wt_env.specs.declared.types.EngineOrModuleTypeIndex.TheVariants as index
 use Rattle.wt_tree.specs.Fit.{named_by}
@@ -8,19 +8,17 @@ use Rattle.wt_model.specs.Registered.{Registry}
 use Rattle.wt_model.specs.Indices.{closed_tree}
 use Rattle.wt_model.specs.Subtyping.{is_subtype_index}
 use Rattle.wt_model.proofs.subtyping.TypeMaps.{sound-steps}
-use Rattle.wt_keys.specs.Entries.{made_by}
-use Rattle.wt_keys.specs.Keys.{AreShown}
 use Rattle.wt_registry.proofs.registry.TypeRegistry.is_subtype.Goals as goal
 
 pub is_subtype_of-requires-clause-shown : goal.is_subtype_of-requires-clause-shown
-is_subtype_of-requires-clause-shown c = subst AreShown (sym c.as_slice.ensures.value) c.self.invariant.shown
+is_subtype_of-requires-clause-shown c = c.self.invariant.shown
 
 pub returns-clause-steps : goal.returns-clause-steps
 returns-clause-steps c =
     let i = c.args.sub in
     let j = c.args.sup in
     let value : c.is_subtype_of.result ≡ is_subtype_index c.args.self.now.made i j =
-    c.is_subtype_of.ensures ∙ ap (λ es. is_subtype_index (made_by es) i j) c.as_slice.ensures.value ∙ ap (λ (r : Registry). is_subtype_index r.made i j) c.self.view_is in
+    c.is_subtype_of.ensures ∙ ap (λ (r : Registry). is_subtype_index r.made i j) c.self.view_is in
     sound-steps c.args.self.now c.tell_invariant.ensures.sound i j c.is_subtype_of.result value
 
 pub returns-clause-own : goal.returns-clause-own
@@ -29,5 +27,5 @@ returns-clause-own c = λ same.
     let j = c.args.sup in
     let made = c.args.self.now.made in
     let value : c.is_subtype_of.result ≡ is_subtype_index made i j =
-    c.is_subtype_of.ensures ∙ ap (λ es. is_subtype_index (made_by es) i j) c.as_slice.ensures.value ∙ ap (λ (r : Registry). is_subtype_index r.made i j) c.self.view_is in
+    c.is_subtype_of.ensures ∙ ap (λ (r : Registry). is_subtype_index r.made i j) c.self.view_is in
     value ∙ ap (λ (k : VMSharedTypeIndex). is_subtype_index made i k) (sym same) ∙ is_sub-refl (named_by (closed_tree made) (index.Engine i))

@@ -1,24 +1,21 @@
 -- the plan of a module's groups, carried out
-use Rattle.std.proofs.Common.{◌++◌, List, length, sym, ap, subst, arith}
+use Rattle.std.proofs.Common.{◌++◌, length, ap, arith}
 use Rattle.wt_rules.specs.Rules.{total_members}
 use Rattle.wt_model.specs.Indices.{closed_tree}
 use Rattle.wt_keys.specs.Entries.{made_by}
-use Rattle.wt_keys.specs.Keys.{AreShown}
-use Rattle.wt_keys.specs.declared.entry.RecGroupEntry.{RecGroupEntry}
-use Rattle.wt_plan.specs.Planned.{AreNewBelow}
 use Rattle.wt_registry.proofs.CountedTypes.{length-typed}
 use Rattle.wt_registry.proofs.Soundness.{sound}
 use Rattle.wt_registry.proofs.registry.TypeRegistry.register_module.Goals as goal
 
 pub plan_groups-requires-clause-shown : goal.plan_groups-requires-clause-shown
-plan_groups-requires-clause-shown c = subst AreShown (sym c.as_slice-entries.ensures.value) c.self.invariant.shown
+plan_groups-requires-clause-shown c = c.self.invariant.shown
 
 pub check_and_commit-requires-clause-shown : goal.check_and_commit-requires-clause-shown
 check_and_commit-requires-clause-shown c = (c.in_ok-place.ensures.planned c.in_default.is).shown
 
 pub check_and_commit-requires-clause-below : goal.check_and_commit-requires-clause-below
 check_and_commit-requires-clause-below c =
-    subst (λ (entries : List RecGroupEntry). AreNewBelow entries c.plan_groups.new.plan.added.items) c.as_slice-entries.ensures.value (c.in_ok-place.ensures.planned c.in_default.is).below
+    (c.in_ok-place.ensures.planned c.in_default.is).below
 
 pub returns-in_err-numbers-clause-sound : goal.returns-in_err-numbers-clause-sound
 returns-in_err-numbers-clause-sound c = sound c.self.inside.engine c.check_and_commit.new.groups c.check_and_commit.ensures.kept
@@ -31,7 +28,7 @@ pub new-requires : goal.new-requires
 new-requires c =
     let plan = c.plan_groups.new.plan in
     let planned = c.in_ok-place.ensures.planned c.in_default.is in
-    let typed = length-typed (closed_tree (made_by (c.as_slice-entries.result.now ++ plan.added.items))) plan.map.items c.as_slice-groups.result.now planned.named in
+    let typed = length-typed (closed_tree (made_by (c.self.inside.groups.entries ++ plan.added))) plan.map.items c.as_slice-groups.result.now planned.named in
     let same = ap total_members c.as_slice-groups.ensures in
     let long = ap length c.in_ok-numbers.ensures.map in
     omega (arith, typed, same, long, c.requires.countable.few_members)

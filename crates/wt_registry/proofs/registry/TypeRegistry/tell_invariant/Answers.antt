@@ -15,4 +15,4 @@ returns-clause-sound c = subst IsSound c.self.view_is (sound c.self.inside.engin
 pub returns-clause-fit : goal.returns-clause-fit
 returns-clause-fit c =
     subst (λ (registry : Registry). StepsFit (closed_tree registry.made)) c.self.view_is
-    (rules-fit (made_by c.self.inside.groups.entries.items) c.self.invariant.rules)
+    (rules-fit (made_by c.self.inside.groups.entries) c.self.invariant.rules)

@@ -15,24 +15,24 @@ pub unreachable-requires : goal.unreachable-requires
 unreachable-requires c =
     let groups = c.self.inside.groups in
     let i = c.args.index in
-    let none : trampoline_index (made_by groups.entries.items) i ≡ None = ap (λ es. trampoline_index (made_by es) i) (sym c.as_slice.ensures.value) ∙ sym c.trampoline_of.ensures ∙ c.in-None.is in
+    let none : trampoline_index (made_by groups.entries) i ≡ None = sym c.trampoline_of.ensures ∙ c.in-None.is in
     let named = subst (λ (r : Registry). IsFunctionIndex r.made i) (sym c.self.view_is) c.requires.function in
-    false≢true (sym (ap is_some none) ∙ function-trampoline groups.entries.items groups.given.numbers c.self.invariant.keys i named)
+    false≢true (sym (ap is_some none) ∙ function-trampoline groups.entries groups.given.numbers c.self.invariant.keys i named)
 
 pub returns-clause-trees : goal.returns-clause-trees
 returns-clause-trees c =
     let groups = c.self.inside.groups in
     let i = c.args.index in
     let j = c.in-Some.trampoline in
-    let value : trampoline_index (made_by groups.entries.items) i ≡ Some j = ap (λ es. trampoline_index (made_by es) i) (sym c.as_slice.ensures.value) ∙ sym c.trampoline_of.ensures ∙ c.in-Some.is in
+    let value : trampoline_index (made_by groups.entries) i ≡ Some j = sym c.trampoline_of.ensures ∙ c.in-Some.is in
     subst (λ (r : Registry). closed_tree r.made j ≡ option_and_then trampoline (closed_tree r.made i)) c.self.view_is
-    (trampoline-closed groups.entries.items groups.given.numbers c.self.invariant.keys i j value)
+    (trampoline-closed groups.entries groups.given.numbers c.self.invariant.keys i j value)
 
 pub returns-clause-own : goal.returns-clause-own
 returns-clause-own c =
     let groups = c.self.inside.groups in
     let i = c.args.index in
     let j = c.in-Some.trampoline in
-    let value : trampoline_index (made_by groups.entries.items) i ≡ Some j = ap (λ es. trampoline_index (made_by es) i) (sym c.as_slice.ensures.value) ∙ sym c.trampoline_of.ensures ∙ c.in-Some.is in
+    let value : trampoline_index (made_by groups.entries) i ≡ Some j = sym c.trampoline_of.ensures ∙ c.in-Some.is in
     subst (λ (r : Registry). trampoline_index r.made j ≡ Some j) c.self.view_is
-    (trampoline-own groups.entries.items groups.given.numbers c.self.invariant.keys i j value)
+    (trampoline-own groups.entries groups.given.numbers c.self.invariant.keys i j value)

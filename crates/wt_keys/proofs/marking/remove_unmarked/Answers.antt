@@ -1,6 +1,6 @@
 use Rattle.std.proofs.Common.{arith}
-use Rattle.wt_holds.proofs.marks.Passes.{down_kept}
-use Rattle.wt_holds.proofs.marking.remove_unmarked.Goals as goal
+use Rattle.wt_keys.proofs.Passes.{down_kept}
+use Rattle.wt_keys.proofs.marking.remove_unmarked.Goals as goal
 
 pub loop-place-preserved : goal.loop-place-preserved
 loop-place-preserved g c = record {

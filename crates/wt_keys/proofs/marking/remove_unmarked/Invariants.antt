@@ -1,7 +1,7 @@
 -- what isn't marked from this place on is gone
 use Rattle.std.proofs.Common.{◌≡◌, ◌≤◌, length}
-use Rattle.wt_holds.proofs.marks.Passes.{cleared}
-use Rattle.wt_holds.proofs.marking.remove_unmarked.Given as goal
+use Rattle.wt_keys.proofs.Passes.{cleared}
+use Rattle.wt_keys.proofs.marking.remove_unmarked.Given as goal
 
 abbrev pub invariant-loop-place : goal.invariant-loop-place
 invariant-loop-place g l = record {
