@@ -10,3 +10,10 @@ pub mod Supertypes
 pub mod TrampolineIndices
 pub mod UsedIndices
 pub mod Passes
+pub mod Filing
+pub mod Numbered
+pub mod Searching
+pub mod Looking
+pub mod Stored
+pub mod ApartKeys
+pub mod LocatedEntries

@@ -92,6 +92,10 @@ own_shown indices (index.RecGroup k) = unwrap_or (option_map index.Engine (slice
 abbrev pub AreShown : List RecGroupEntry → Type 0
 AreShown entries = (entry : RecGroupEntry) → Among entry entries → entry.runtime_types ≡ map_group_refs (own_shown entry.shared_type_indices) entry.hash_consing_key.types
 
+-- the number of an entry, and the place of an index in it
+abbrev pub at_entry : VMSharedTypeIndex → RecGroupEntry → Option (ℕ × ℕ)
+at_entry i entry = option_map (λ place. (entry.number, place)) (place_in i entry.shared_type_indices)
+
 -- what an entry shows at the place of an index
 abbrev pub shown_in : VMSharedTypeIndex → Option RecGroupEntry → Option WasmSubType
 shown_in i None = None

@@ -1,8 +1,9 @@
-//! The registered groups as they are kept, by keys, and the plain searches of them.
+//! The registered groups as they are kept: a list of entries, found by key, by index and by number.
 #![tactic(auto)]
 
 pub mod entries;
 pub mod entry;
+pub mod files;
 pub mod marking;
 pub mod search;
 pub mod subtyping;

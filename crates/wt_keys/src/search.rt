@@ -10,7 +10,7 @@ ghost use Rattle.wt_model.specs.Trampolines.{trampoline_index};
 ghost use Rattle.wt_model.specs.Indices.{used, is_used as is_used_number, place_in, locate};
 ghost use Rattle.wt_model.specs.Shown.{sub_type_at};
 ghost use Rattle.wt_keys.specs.Keys.{AreKeys};
-ghost use Rattle.wt_keys.specs.Keys.{AreShown, shown_in as shown_in_entry};
+ghost use Rattle.wt_keys.specs.Keys.{AreShown, shown_in as shown_in_entry, at_entry};
 ghost use Rattle.wt_keys.specs.Entries.{made_by};
 ghost use Rattle.wt_model.specs.Live.{live_of};
 
@@ -109,16 +109,34 @@ pub fn live_groups(alloc: Global, entries: &RecGroupEntries) -> Result<Seq<LiveG
     Ok(groups)
 }
 
+/// The number of an entry, and the place of the type that has this index in it.
+fn locate_in_entry(entry: &RecGroupEntry, index: VMSharedTypeIndex) -> Option<(u64, usize)>
+    ensures { result ≡ at_entry index entry.now }
+{
+    match place_of(entry.shared_type_indices.as_slice(), index) {
+        Some(place) => Some((entry.number, place)),
+        None => None,
+    }
+}
+
+/// The registration number and the place of the type that has this index.
+pub fn locate_index(entries: &RecGroupEntries, index: VMSharedTypeIndex) -> Option<(u64, usize)>
+    ensures { result ≡ locate (made_by entries.now) index }
+{
+    match entries.find_index(index) {
+        Some(entry) => locate_in_entry(entry, index),
+        None => None,
+    }
+}
+
 /// The registration number of the group of the type that has this index.
 pub fn number_at(entries: &RecGroupEntries, index: VMSharedTypeIndex) -> Option<u64>
     ensures { result ≡ option_map (λ at. at.0) (locate (made_by entries.now) index) }
 {
-    for entry in entries.as_slice() {
-        if place_of(entry.shared_type_indices.as_slice(), index).is_some() {
-            return Some(entry.number);
-        }
+    match locate_index(entries, index) {
+        Some((number, _)) => Some(number),
+        None => None,
     }
-    None
 }
 
 /// The first index of the entry that has this registration number.
@@ -181,10 +199,11 @@ pub fn trampoline_of(
     requires keys { (top : ℕ) × AreKeys entries.now top }
     ensures { result ≡ trampoline_index (made_by entries.now) index }
 {
-    for entry in entries.as_slice() {
-        if let Some(place) = place_of(entry.shared_type_indices.as_slice(), index) {
-            return trampoline_at(entries, entry, place, index);
-        }
+    let Some(entry) = entries.find_index(index) else {
+        return None;
+    };
+    match place_of(entry.shared_type_indices.as_slice(), index) {
+        Some(place) => trampoline_at(entries, entry, place, index),
+        None => None,
     }
-    None
 }

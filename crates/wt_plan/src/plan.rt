@@ -13,6 +13,7 @@ ghost use Rattle.wt_model.specs.Trampolines.{trampoline_numbers, TellTrampolines
 ghost use Rattle.wt_tree.specs.References.{number_group};
 ghost use Rattle.wt_tree.specs.Trampoline.{is_own_trampoline as own_test, other_trampoline as other_of};
 ghost use Rattle.wt_keys.specs.Entries.{made_of, made_by};
+ghost use Rattle.wt_keys.specs.Filed.{AreApart};
 ghost use Rattle.wt_keys.specs.Keys.{ResolvesTo, named_at, KeyNamesTypes, AreKeys, IsNewKey, own_shown};
 ghost use Rattle.wt_model.specs.Plan.{with_new, plan_trampoline as plan_trampoline_of, plan_trampolines as plan_trampolines_of, plan_key as plan_key_of};
 ghost use Rattle.wt_plan.specs.Planned.{plan_of, AreResolved, PlansAlone, PlansTold, PlansTrampolines, PlansOne};
@@ -23,7 +24,7 @@ use wt_env::seq::Seq;
 use wt_env::types::{EngineOrModuleTypeIndex, VMSharedTypeIndex, WasmRecGroup, WasmSubType};
 use wt_keys::entries::RecGroupEntries;
 use wt_keys::entry::RecGroupEntry;
-use wt_keys::search::place_of;
+use wt_keys::search::locate_index;
 use wt_model::ever::EverRegistered;
 use wt_tree::map_refs::{IndexChange, map_group_refs};
 use wt_tree::refs::leaving_refs;
@@ -123,15 +124,13 @@ fn locate_in(
 ) -> Result<Option<(u64, u32)>, OutOfMemory>
     ensures { IfOk result (λ at. at ≡ locate (made_by entries.now) index) }
 {
-    for entry in entries.as_slice() {
-        if let Some(place) = place_of(entry.shared_type_indices.as_slice(), index) {
-            return match u32::try_from(place) {
-                Ok(place) => Ok(Some((entry.number, place))),
-                Err(_) => Err(OutOfMemory),
-            };
-        }
+    match locate_index(entries, index) {
+        Some((number, place)) => match u32::try_from(place) {
+            Ok(place) => Ok(Some((number, place))),
+            Err(_) => Err(OutOfMemory),
+        },
+        None => Ok(None),
     }
-    Ok(None)
 }
 
 /// The registration number and place that a reference of a key names.
@@ -276,6 +275,7 @@ fn one_more(
 
 /// One more group that is new, and no occurrence of it.
 fn add_entry(plan: &mut Plan, entry: RecGroupEntry) -> Result<(), OutOfMemory>
+    requires { AreApart (plan.old.added ++ entry ∷ []) }
     ensures added { OnOk result (plan.new.added ≡ plan.old.added ++ entry ∷ []) }
     ensures given { OnOk result (plan.new.given ≡ record {
       numbers = plan.old.given.numbers + 1;

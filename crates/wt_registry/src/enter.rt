@@ -16,6 +16,7 @@ ghost use Rattle.wt_model.specs.Sound.{AreCounted, KeepRules};
 ghost use Rattle.wt_model.specs.Changes.{HoldChanges};
 ghost use Rattle.wt_keys.specs.declared.entry.RecGroupEntry.{RecGroupEntry as EntryOf};
 ghost use Rattle.wt_keys.specs.Entries.{made_of, made_by};
+ghost use Rattle.wt_keys.specs.Filed.{AreApart};
 ghost use Rattle.wt_keys.specs.Keys.{AreKeys, AreShown};
 ghost use Rattle.wt_plan.specs.Planned.{plan_of, AreNewBelow};
 ghost use Rattle.wt_holds.specs.declared.hold_counts.HoldCounts.{HoldCounts as CountsOf};
@@ -154,6 +155,7 @@ fn insert_entries(
     plan: Plan,
     rows: Vec<HoldCounts>,
 ) -> Result<(Vec<u64>, Vec<VMSharedTypeIndex>), OutOfMemory>
+    requires apart { AreApart (groups.old.entries ++ plan.added) }
     requires counts_room { vec_len groups.old.counts + vec_len rows ≤ vec_capacity groups.old.counts }
     requires marks_room { vec_len groups.old.marks + length plan.added ≤ vec_capacity groups.old.marks }
     requires calm { (count : CountsOf) → Among count rows.items → count.waits ≡ false }

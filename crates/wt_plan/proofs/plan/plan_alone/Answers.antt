@@ -4,6 +4,7 @@ use Rattle.wt_env.specs.declared.types.WasmSubType.{WasmSubType}
 use Rattle.wt_env.specs.declared.types.WasmRecGroup.{WasmRecGroup}
 use Rattle.wt_keys.specs.Entries.{made_by}
 use Rattle.wt_keys.specs.Keys.{ResolvesTo, KeyNamesTypes}
+use Rattle.wt_keys.proofs.ApartKeys.{new-apart}
 use Rattle.wt_plan.proofs.HostKeys.{alone-slots}
 use Rattle.wt_plan.proofs.GrownKeys.{plans-keys}
 use Rattle.wt_plan.proofs.Planning.{plans-entry}
@@ -62,3 +63,6 @@ returns-clause-alone c =
     alone-new entries plan c.add_entry.new.plan c.args.member entry c.requires.own (returns-clause-keys c) types
     (plans-entry entries plan c.add_entry.new.plan entry new c.in_ok-entry.ensures.shown c.in_ok-add_entry.ensures.added c.in_ok-add_entry.ensures.given)
     c.in_ok-add_entry.ensures.numbers c.in_ok-add_entry.ensures.map
+
+pub add_entry-requires : goal.add_entry-requires
+add_entry-requires c = new-apart c.args.entries.now c.args.plan.now.added c.args.plan.now.given.numbers c.in_ok-entry.entry c.requires.keys c.in_ok-entry.ensures.key

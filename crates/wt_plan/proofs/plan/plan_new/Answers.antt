@@ -5,6 +5,7 @@ use Rattle.wt_env.specs.declared.types.WasmRecGroup.{WasmRecGroup}
 use Rattle.wt_model.specs.Plan.{Plan, with_new}
 use Rattle.wt_keys.specs.declared.entry.RecGroupEntry.{RecGroupEntry}
 use Rattle.wt_keys.specs.Entries.{made_by}
+use Rattle.wt_keys.proofs.ApartKeys.{new-apart}
 use Rattle.wt_plan.specs.Planned.{AreResolved, PlansTrampolines}
 use Rattle.wt_plan.proofs.GrownKeys.{named-grown, plans-keys}
 use Rattle.wt_plan.proofs.Planning.{occurs-new, plans-entry}
@@ -68,3 +69,8 @@ returns-clause-one c =
     (ap (λ (g : WasmRecGroup). g.types) c.in_ok-entry.ensures.group) c.in_ok-entry.ensures.trampolines
     (c.in_ok-add_entry.ensures.numbers ∙ c.in_ok-add_occurrence.ensures.numbers ∙ ap (λ (ns : List ℕ). ns ++ entry.number ∷ []) so_far.numbers)
     (c.in_ok-add_entry.ensures.map ∙ c.in_ok-add_occurrence.ensures.map ∙ ap (λ is. is ++ entry.shared_type_indices) so_far.map)
+
+pub add_entry-requires : goal.add_entry-requires
+add_entry-requires c =
+    let middle = c.plan_trampolines.new.plan in
+    new-apart c.args.entries.now middle.added middle.given.numbers c.in_ok-entry.entry c.in_ok-told.ensures.keys c.in_ok-entry.ensures.key

@@ -17,6 +17,8 @@ use Rattle.wt_model.proofs.plan.Gaining.{carried-changes}
 use Rattle.wt_model.proofs.plan.HoldsWanted.{held_at-with_new}
 use Rattle.wt_keys.specs.declared.entry.RecGroupEntry.{RecGroupEntry}
 use Rattle.wt_keys.specs.Entries.{made_by}
+use Rattle.wt_keys.specs.Filed.{AreApart}
+use Rattle.wt_keys.proofs.ApartKeys.{keys-apart}
 use Rattle.wt_plan.specs.declared.plan.Plan.{Plan as PlanFields}
 use Rattle.wt_plan.specs.Planned.{plan_of}
 use Rattle.wt_holds.specs.declared.hold_counts.HoldCounts.{HoldCounts}
@@ -85,6 +87,11 @@ new_rows : (c : goal.After-insert_entries-arg-1) → standings_of c.in_ok-rows.r
 new_rows c =
     rows_are c.args.engine.now c.limits.result.parties c.in_ok-rows.rows.items c.args.plan.added c.as_slice-3.result.now (ap (λ l. l.parties) c.limits.ensures.value) c.as_slice-3.ensures
     c.in_ok-rows.ensures.counts
+
+pub insert_entries-requires-clause-apart : goal.insert_entries-requires-clause-apart
+insert_entries-requires-clause-apart c =
+    subst (λ (entries : List RecGroupEntry). AreApart (entries ++ c.args.plan.added)) (sym c.reserve_counts.ensures.entries)
+    (keys-apart (c.args.groups.now.entries ++ c.args.plan.added) c.args.plan.given.numbers c.requires.keys)
 
 pub insert_entries-requires-clause-calm : goal.insert_entries-requires-clause-calm
 insert_entries-requires-clause-calm c = calm c.args.engine.now c.in_ok-rows.rows.items c.args.plan.added (new_rows c)

@@ -1,13 +1,15 @@
--- the test over the entries is the test over their indices
-use Rattle.std.proofs.Common.{List, ap, ◌∙◌}
+-- an index is used where an entry is found that has it
+use Rattle.std.proofs.Common.{is_some, sym, ap, ◌∙◌}
 use Rattle.wt_model.specs.Indices.{used, is_used}
-use Rattle.wt_keys.specs.declared.entry.RecGroupEntry.{RecGroupEntry}
+use Rattle.wt_model.proofs.trees.KnownTrees.{is_some-map}
 use Rattle.wt_keys.specs.Entries.{made_by}
-use Rattle.wt_keys.proofs.UsedIndices.{is_used-by}
+use Rattle.wt_keys.proofs.UsedIndices.{found-used}
 use Rattle.wt_keys.proofs.entries.RecGroupEntries.is_used.Goals as goal
 
 pub returns : goal.returns
 returns c =
-    c.any_holds_index.ensures
-    ∙ is_used-by c.args.candidate c.as_slice.result.now
-    ∙ ap (λ (entries : List RecGroupEntry). is_used (used (made_by entries)) c.args.candidate) (c.as_slice.ensures.value ∙ c.self.view_is)
+    c.is_some.ensures
+    ∙ sym (is_some-map (λ entry. entry.now) c.find_index.result)
+    ∙ ap is_some c.find_index.ensures
+    ∙ found-used c.new.result c.args.self.now
+    ∙ ap (is_used (used (made_by c.args.self.now))) c.new.ensures
