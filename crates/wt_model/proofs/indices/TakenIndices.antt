@@ -29,11 +29,11 @@ is_used-between k x [] ys = refl
 is_used-between k x (y ∷ xs) ys = ap (λ b. (y == k) || b) (is_used-between k x xs ys) ∙ swap_or (y == k) (x == k) (is_used (xs ++ ys) k)
 
 -- the order doesn't matter to the test
-is_used-with : (k : ℕ) (taken : List VMSharedTypeIndex) (numbers : List ℕ) → is_used (used_with taken numbers) k ≡ is_used (map (λ i. i.0) taken ++ numbers) k
+pub is_used-with : (k : ℕ) (taken : List VMSharedTypeIndex) (numbers : List ℕ) → is_used (used_with taken numbers) k ≡ is_used (map (λ i. i.0) taken ++ numbers) k
 is_used-with k [] numbers = refl
 is_used-with k (i ∷ taken) numbers = is_used-with k taken (i.0 ∷ numbers) ∙ is_used-between k i.0 (map (λ i. i.0) taken) numbers
 
-used_with-push : (taken : List VMSharedTypeIndex) (i : VMSharedTypeIndex) (numbers : List ℕ) → used_with (taken ++ i ∷ []) numbers ≡ i.0 ∷ used_with taken numbers
+pub used_with-push : (taken : List VMSharedTypeIndex) (i : VMSharedTypeIndex) (numbers : List ℕ) → used_with (taken ++ i ∷ []) numbers ≡ i.0 ∷ used_with taken numbers
 used_with-push [] i numbers = refl
 used_with-push (j ∷ taken) i numbers = used_with-push taken i (j.0 ∷ numbers)
 

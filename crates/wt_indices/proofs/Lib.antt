@@ -1,0 +1,4 @@
+pub mod Occurrences
+pub mod Smallest
+pub mod Kept
+pub mod Assigning
