@@ -1,7 +1,6 @@
 -- What is true of all keys stays true where a new entry is added, and what follows for the registry: one index
 -- for each closed tree, and the closed tree of each index.
-use Rattle.std.proofs.Common.{◌≡◌, ◌≢◌, ◌⊎◌, ℕ, ◌+◌, ◌<◌, inl, inr, true, List, [], ◌∷◌, ◌++◌, length, map, slice_get, Option, Some, option_map, refl, sym, ap, subst, ◌∙◌, arith}
-use Rattle.std.specs.List.{filter_map}
+use Rattle.std.proofs.Common.{◌≡◌, ◌≢◌, ◌⊎◌, ℕ, ◌+◌, ◌<◌, inl, inr, true, List, [], ◌∷◌, ◌++◌, length, map, reverse, slice_get, Some, option_map, refl, sym, ap, subst, ◌∙◌, arith}
 use Rattle.std.proofs.lemmas.Bool.{false≢true}
 use Rattle.std.proofs.lemmas.List.{map-append}
 use Rattle.wt_env.specs.Equality.{rec_group_eq, rec_group_eq-refl}
@@ -10,29 +9,34 @@ use Rattle.wt_env.specs.declared.types.EngineOrModuleTypeIndex.{EngineOrModuleTy
 use Rattle.wt_env.specs.declared.types.EngineOrModuleTypeIndex.TheVariants as index
 use Rattle.wt_env.specs.declared.types.WasmSubType.{WasmSubType}
 use Rattle.wt_tree.specs.References.{number_group, group_refs}
-use Rattle.wt_tree.specs.Tree.{Description, close}
+use Rattle.wt_tree.specs.Tree.{Description, ClosedTree, close}
 use Rattle.wt_tree.proofs.Closing.{close-agree}
-use Rattle.wt_tree.proofs.Numbering.{length-number_group}
 use Rattle.wt_keys.specs.declared.entry.RecGroupEntry.{RecGroupEntry}
 use Rattle.wt_model.specs.Registered.{RegisteredGroup}
 use Rattle.wt_env.specs.Among.{Among}
 use Rattle.wt_model.specs.Trees.{trees}
 use Rattle.wt_model.specs.Indices.{locate, closed_tree}
 use Rattle.wt_model.specs.Describe.{tree_of}
-use Rattle.wt_model.specs.NamedTypes.{NamesTypes, NameTypes}
+use Rattle.wt_model.specs.NamedTypes.{NameTypes}
 use Rattle.wt_model.specs.Trampolines.{TellTrampolines}
-use Rattle.wt_model.proofs.Trampolines.{among-told, tell-before, tell-registered}
+use Rattle.wt_model.proofs.Trampolines.{tell-before, tell-registered}
 use Rattle.wt_model.specs.Sound.{IsRising, IsLocated, OneIndexPerTree, NamesOlder, AreIndexed}
 use Rattle.wt_keys.specs.Entries.{made_of, made_by}
 use Rattle.wt_keys.specs.Keys.{named_at, ResolvesTo, KeyNamesTypes, IsKey, AreApartTrees, AreKeys, IsNewKey}
 use Rattle.wt_env.proofs.lists.Mapped.{among_map, among_mapped, among_last}
-use Rattle.wt_env.proofs.lists.Members.{first_same, rest_same, some_same, among_pushed, among_either, find-none}
-use Rattle.wt_model.proofs.indices.Rising.{number_within, one_number, rising-pushed}
+use Rattle.wt_env.proofs.lists.Members.{first_same, rest_same, among_pushed, find-none}
+use Rattle.wt_model.proofs.indices.Rising.{number_within, rising-pushed}
 use Rattle.wt_model.proofs.indices.Places.{locate-at, locate-before, located-added}
+use Rattle.wt_model.proofs.trees.KnownTrees.{closed_tree-located}
+use Rattle.wt_keys.proofs.ToldLists.{list-told}
 use Rattle.wt_model.proofs.trees.Trees.{trees-pushed, trees-pushed_own}
 use Rattle.wt_model.proofs.NamedTypes.{names_types-before}
 use Rattle.wt_keys.proofs.KeyTrees.{describe-named, names-registered, key-tree}
 use Rattle.wt_keys.proofs.NamedByKeys.{names_types-key}
+use Rattle.wt_keys.proofs.KeyedGroups.{AreKeyed, keyed, keyed-indexed, keyed-one_index, keyed-names_older, keyed-name_types}
+use Rattle.wt_keys.proofs.NewSupertypes.{new-chains}
+use Rattle.wt_keys.proofs.SupertypeLists.{chain-grown}
+use Rattle.wt_keys.specs.SupertypeChains.{IsSupertypeChain, TellsSupertypes, list_of}
 
 -- ---- references still name what they did
 
@@ -66,12 +70,7 @@ key-before made more entry key = record {
 
 -- a group has as many indices as members
 pub indexed : (entries : List RecGroupEntry) (top : ℕ) → AreKeys entries top → AreIndexed (made_by entries)
-indexed entries top keys a at =
-    let named = among_map made_of entries a at in
-    let entry : RecGroupEntry = named.0 in
-    let same : a ≡ made_of entry = named.2 in
-    ap (λ (m : RegisteredGroup). length m.indices) same ∙ (keys.keys entry named.1).members
-    ∙ sym (length-number_group entry.hash_consing_key.types) ∙ ap (λ (m : RegisteredGroup). length m.description.members) (sym same)
+indexed entries top keys = keyed-indexed entries top (keyed keys)
 
 -- a new entry refers to older groups, since it refers to registered ones; where its key names types, it does
 pub is_key-new : (entries : List RecGroupEntry) (top : ℕ) (entry : RecGroupEntry) → AreKeys entries top → entry.number ≡ top + 1 → ResolvesTo (made_by entries) entry.hash_consing_key.types entry.outer → length entry.shared_type_indices ≡ length entry.hash_consing_key.types → KeyNamesTypes entry.hash_consing_key.types
@@ -108,6 +107,7 @@ keys-none top = record {
   keys = λ entry at. absurd at;
   located = λ a j i at is. absurd at;
   apart = λ a b at bt same. absurd at;
+  supertypes = λ entry at. absurd at;
 }
 
 module _ (entries : List RecGroupEntry) (top : ℕ) (entry : RecGroupEntry) (keys : AreKeys entries top) (added : IsNewKey entries top entry) where
@@ -157,9 +157,9 @@ module _ (entries : List RecGroupEntry) (top : ℕ) (entry : RecGroupEntry) (key
       by (inl there) = key-before (made_by entries) (made_of entry ∷ []) e (keys.keys e there)
       by (inr same) = subst (IsKey (made_by entries ++ made_of entry ∷ [])) (sym same) (key-before (made_by entries) (made_of entry ∷ []) entry added.key)
 
-  -- what is true of all entries stays true
-  pub keys-push : AreKeys (entries ++ entry ∷ []) (top + 1)
-  keys-push = record {
+  -- what is true of keys and indices stays true
+  keyed-push : AreKeyed (entries ++ entry ∷ []) (top + 1)
+  keyed-push = record {
     rising = subst (λ made. IsRising 0 made (top + 1)) (sym pushed) (rising-pushed 0 top (made_by entries) (made_of entry) keys.rising added.number);
     keys = λ e at. subst (λ made. IsKey made e) (sym pushed) (keys-all e at);
     located = subst IsLocated (sym pushed) (located-added (made_by entries) (made_of entry) keys.located added.unused added.distinct);
@@ -199,52 +199,54 @@ module _ (entries : List RecGroupEntry) (top : ℕ) (entry : RecGroupEntry) (key
       ∙ ap (λ tree. Some (record { tree = tree; place = at.1 })) (number-kept place.group at.0 place.among place.number)
       ∙ sym (ap (option_map (λ at. record { tree = trees (made_by entries) at.0; place = at.1 })) is)
 
+  -- each index has the closed tree that it had
+  tree-still : (i : VMSharedTypeIndex) (t : ClosedTree) → closed_tree (made_by entries) i ≡ Some t → closed_tree (made_by (entries ++ entry ∷ [])) i ≡ Some t
+  tree-still i t is = let found = closed_tree-located (made_by entries) i t is in closed_tree-kept i found.0 found.1 ∙ is
+
+  -- lists that are told are told still
+  supertypes-before : (e : RecGroupEntry) → Among e entries → TellsSupertypes (made_by (entries ++ entry ∷ [])) e
+  supertypes-before e at = record {
+    lists = (keys.supertypes e at).lists;
+    chains = λ place list is.
+        subst (λ tree. IsSupertypeChain (closed_tree (made_by (entries ++ entry ∷ []))) (record { tree = tree; place = place }) (reverse list)) (sym (tree-kept (made_of e) (among_mapped made_of entries e at)))
+        (chain-grown (closed_tree (made_by entries)) (closed_tree (made_by (entries ++ entry ∷ []))) tree-still (record { tree = trees (made_by entries) e.number; place = place }) (reverse list) ((keys.supertypes e at).chains place list is));
+  }
+
+  -- so is the list of each index that was there
+  told-before : (i : VMSharedTypeIndex) (list : List VMSharedTypeIndex) → list_of entries i ≡ Some list
+      → (t : ClosedTree) × (closed_tree (made_by (entries ++ entry ∷ [])) i ≡ Some t) × IsSupertypeChain (closed_tree (made_by (entries ++ entry ∷ []))) t (reverse list)
+  told-before i list is =
+      let told = list-told entries i list keys.supertypes is in
+      (told.0, tree-still i told.0 told.1, chain-grown (closed_tree (made_by entries)) (closed_tree (made_by (entries ++ entry ∷ []))) tree-still told.0 (reverse list) told.2)
+
+  -- what is true of all entries stays true
+  pub keys-push : AreKeys (entries ++ entry ∷ []) (top + 1)
+  keys-push = record {
+    rising = keyed-push.rising;
+    keys = keyed-push.keys;
+    located = keyed-push.located;
+    apart = keyed-push.apart;
+    supertypes = λ e at. by e (among_pushed entries entry e at);
+  }
+    where
+      by : (e : RecGroupEntry) → Among e entries ⊎ (e ≡ entry) → TellsSupertypes (made_by (entries ++ entry ∷ [])) e
+      by e (inl there) = supertypes-before e there
+      by e (inr same) = subst (TellsSupertypes (made_by (entries ++ entry ∷ []))) (sym same)
+          (new-chains (entries ++ entry ∷ []) (top + 1) entry keyed-push (among_last entries entry) entries told-before added.supertypes)
+
 -- ---- the registry
 
 -- two registered types have one index exactly where their closed trees are equal
 pub one_index : (entries : List RecGroupEntry) (top : ℕ) → AreKeys entries top → OneIndexPerTree (made_by entries)
-one_index entries top keys a b j k i l at bt first second = (there, back)
-  where
-    there : i ≡ l → (trees (made_by entries) a.number ≡ trees (made_by entries) b.number) × (j ≡ k)
-    there same =
-        let pair : (a.number, j) ≡ (b.number, k) = some_same (sym (keys.located a j i at first) ∙ ap (locate (made_by entries)) same ∙ keys.located b k l bt second) in
-        (ap (λ (p : ℕ × ℕ). trees (made_by entries) p.0) pair, ap (λ (p : ℕ × ℕ). p.1) pair)
-
-    back : (trees (made_by entries) a.number ≡ trees (made_by entries) b.number) × (j ≡ k) → i ≡ l
-    back same =
-        let one = one_number 0 top (made_by entries) a b keys.rising at bt (keys.apart a b at bt same.0) in
-        some_same (sym first ∙ (λ t. slice_get (one t).indices (same.1 t)) ∙ second)
+one_index entries top keys = keyed-one_index entries top (keyed keys)
 
 -- edges lead to older registered groups
 pub names_older : (entries : List RecGroupEntry) (top : ℕ) → AreKeys entries top → NamesOlder (made_by entries)
-names_older entries top keys a number at leads =
-    by (among_either (map (λ (r : ℕ × ℕ). r.0) a.description.outer) (filter_map (λ (told : Option ℕ). told) a.trampolines) number leads)
-  where
-    named : (entry : RecGroupEntry) × Among entry entries × (a ≡ made_of entry)
-    named = among_map made_of entries a at
-
-    key : IsKey (made_by entries) named.0
-    key = keys.keys named.0 named.1
-
-    by : Among number (map (λ (r : ℕ × ℕ). r.0) a.description.outer) ⊎ Among number (filter_map (λ (told : Option ℕ). told) a.trampolines)
-        → (number < a.number) × (b : RegisteredGroup) × Among b (made_by entries) × (b.number ≡ number)
-    by (inl refers) =
-        let edge = among_map (λ (r : ℕ × ℕ). r.0) a.description.outer number refers in
-        let there : Among edge.0 named.0.outer = subst (Among edge.0) (ap (λ (m : RegisteredGroup). m.description.outer) named.2) edge.1 in
-        let below = subst (λ (m : RegisteredGroup). (edge.0).0 < m.number) (sym named.2) (key.older edge.0 there) in
-        let group = names-registered (made_by entries) named.0.hash_consing_key.types named.0.outer key.names edge.0 there in
-        (subst (λ n. n < a.number) (sym edge.2) below, group.0, group.1, group.2 ∙ sym edge.2)
-    by (inr enters) =
-        let there : Among (Some number) named.0.trampolines = subst (Among (Some number)) (ap (λ (m : RegisteredGroup). m.trampolines) named.2) (among-told number a.trampolines enters) in
-        let below = subst (λ (m : RegisteredGroup). number < m.number) (sym named.2) (key.older_trampolines number there) in
-        let group = tell-registered (made_by entries) (number_group named.0.hash_consing_key.types) named.0.trampolines number key.trampolines there in
-        (below, group.0, group.1, group.2)
+names_older entries top keys = keyed-names_older entries top (keyed keys)
 
 -- each registered group names types
 pub name_types : (entries : List RecGroupEntry) (top : ℕ) → AreKeys entries top → NameTypes (made_by entries)
-name_types entries top keys a at =
-    let named = among_map made_of entries a at in
-    subst (λ (m : RegisteredGroup). NamesTypes (made_by entries) m.description) (sym named.2) (keys.keys named.0 named.1).name_types
+name_types entries top keys = keyed-name_types entries top (keyed keys)
 
 -- the closed tree of each index of a registered group
 pub closed_tree-registered : (entries : List RecGroupEntry) (top : ℕ) (entry : RecGroupEntry) (k : ℕ) (i : VMSharedTypeIndex) → AreKeys entries top → Among entry entries → slice_get entry.shared_type_indices k ≡ Some i → closed_tree (made_by entries) i ≡ Some (record { tree = trees (made_by entries) entry.number; place = k })

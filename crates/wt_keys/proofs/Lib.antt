@@ -6,7 +6,7 @@ pub mod KeyTrampolines
 pub mod NamedByKeys
 pub mod NewKeys
 pub mod ShownIndices
-pub mod Supertypes
+pub mod EntryTypes
 pub mod TrampolineIndices
 pub mod UsedIndices
 pub mod Passes
@@ -17,3 +17,8 @@ pub mod Looking
 pub mod Stored
 pub mod ApartKeys
 pub mod LocatedEntries
+pub mod SupertypeLists
+pub mod KeyedGroups
+pub mod NewSupertypes
+pub mod ToldLists
+pub mod ListedSubtypes

@@ -10,6 +10,7 @@ use Rattle.wt_model.specs.Describe.{describe}
 use Rattle.wt_model.specs.Trampolines.{trampoline_numbers, TellTrampolines}
 use Rattle.wt_keys.specs.Entries.{made_of, made_by}
 use Rattle.wt_keys.specs.Keys.{ResolvesTo, KeyNamesTypes, AreKeys, IsNewKey}
+use Rattle.wt_keys.specs.SupertypeChains.{FollowSupertypes}
 use Rattle.wt_model.specs.Indices.{AreUnused, AreDistinct}
 use Rattle.wt_keys.proofs.AddedKeys.{is_key-new}
 use Rattle.wt_model.proofs.indices.FreshIndices.{length-assign_shared_type_indices, assign_shared_type_indices-below, assign_shared_type_indices-unused, assign_shared_type_indices-distinct}
@@ -17,8 +18,9 @@ use Rattle.wt_keys.proofs.KeyTrees.{describe-named}
 use Rattle.wt_keys.proofs.KeyTrampolines.{told-numbers}
 
 module _ (entries : List RecGroupEntry) (top : ℕ) (entry : RecGroupEntry) (number : entry.number ≡ top + 1) (names : ResolvesTo (made_by entries) entry.hash_consing_key.types entry.outer) (keys : AreKeys entries top) (tell : TellTrampolines (made_by entries) (number_group entry.hash_consing_key.types) entry.trampolines) (indices : entry.shared_type_indices ≡ assign_shared_type_indices (length entry.hash_consing_key.types) (used (made_by entries))) where
-  pub new_key : KeyNamesTypes entry.hash_consing_key.types → find (λ e. rec_group_eq e.hash_consing_key entry.hash_consing_key) entries ≡ None → IsNewKey entries top entry
-  new_key name_types new =
+  pub new_key : KeyNamesTypes entry.hash_consing_key.types → find (λ e. rec_group_eq e.hash_consing_key entry.hash_consing_key) entries ≡ None → FollowSupertypes entries entry.shared_type_indices entry.hash_consing_key.types entry.supertypes
+      → IsNewKey entries top entry
+  new_key name_types new supertypes =
       let n = length entry.hash_consing_key.types in
       let numbers = used (made_by entries) in
       record {
@@ -31,6 +33,7 @@ module _ (entries : List RecGroupEntry) (top : ℕ) (entry : RecGroupEntry) (num
             let below = assign_shared_type_indices-below n numbers i (subst (Among i) indices at) in
             let long = ap length indices ∙ length-assign_shared_type_indices n numbers in
             omega (arith, below, long);
+        supertypes = supertypes;
       }
 
   -- and what it is among the registered groups

@@ -14,6 +14,7 @@ use Rattle.wt_env.specs.Among.{Among}
 use Rattle.wt_model.specs.Sound.{IsRising}
 use Rattle.wt_keys.specs.Entries.{made_of, made_by}
 use Rattle.wt_keys.specs.Keys.{named_at, AreKeys, own_shown}
+use Rattle.wt_keys.proofs.KeyedGroups.{AreKeyed, keyed}
 use Rattle.wt_model.specs.Shown.{index_at, shown_index, shown}
 use Rattle.wt_env.proofs.lists.Members.{first_same, rest_same}
 use Rattle.wt_model.proofs.indices.ShownPlaces.{index_at-located}
@@ -33,7 +34,7 @@ module _ (top : ℕ) (made : List RegisteredGroup) (rising : IsRising 0 made top
   refs-shown (x ∷ xs) (o ∷ os) is (suc n) d = refs-shown xs os (rest_same is) n d
 
 -- each reference of the numbered key is shown as that of the key is
-shown-filled : (entries : List RecGroupEntry) (top : ℕ) (entry : RecGroupEntry) → AreKeys entries top → Among entry entries → (x : EngineOrModuleTypeIndex) → shown_index (made_by entries) (made_of entry) x ≡ own_shown entry.shared_type_indices (fill_index (group_refs entry.hash_consing_key.types) x)
+pub shown-filled : (entries : List RecGroupEntry) (top : ℕ) (entry : RecGroupEntry) → AreKeyed entries top → Among entry entries → (x : EngineOrModuleTypeIndex) → shown_index (made_by entries) (made_of entry) x ≡ own_shown entry.shared_type_indices (fill_index (group_refs entry.hash_consing_key.types) x)
 shown-filled entries top entry keys at (index.Engine i) = refl
 shown-filled entries top entry keys at (index.Module n) =
     sym (refs-shown top (made_by entries) keys.rising entry.shared_type_indices (group_refs entry.hash_consing_key.types) entry.outer (keys.keys entry at).names n.0 n)
@@ -44,6 +45,6 @@ pub shown-key : (entries : List RecGroupEntry) (top : ℕ) (entry : RecGroupEntr
 shown-key entries top entry keys at =
     let refs = group_refs entry.hash_consing_key.types in
     let members = number_group entry.hash_consing_key.types in
-    map_group_refs-same (shown_index (made_by entries) (made_of entry)) (λ x. own_shown entry.shared_type_indices (fill_index refs x)) (shown-filled entries top entry keys at) members
+    map_group_refs-same (shown_index (made_by entries) (made_of entry)) (λ x. own_shown entry.shared_type_indices (fill_index refs x)) (shown-filled entries top entry (keyed keys) at) members
     ∙ sym (map_group_refs-over (own_shown entry.shared_type_indices) (fill_index refs) members)
     ∙ ap (map_group_refs (own_shown entry.shared_type_indices)) (refill_group entry.hash_consing_key.types)

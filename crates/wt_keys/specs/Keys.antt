@@ -18,6 +18,7 @@ use Rattle.wt_model.specs.Trampolines.{TellTrampolines}
 use Rattle.wt_model.specs.Indices.{locate, place_in, used, AreUnused, AreDistinct}
 use Rattle.wt_model.specs.Sound.{IsRising, IsLocated}
 use Rattle.wt_keys.specs.Entries.{made_of, made_by}
+use Rattle.wt_keys.specs.SupertypeChains.{TellsSupertypes, FollowSupertypes}
 
 -- the number and place that a reference of a key names
 abbrev pub named_at : List RegisteredGroup → EngineOrModuleTypeIndex → Option (ℕ × ℕ)
@@ -68,10 +69,12 @@ pub record AreKeys (entries : List RecGroupEntry) (top : ℕ) : Type 0 where
   pub keys : (entry : RecGroupEntry) → Among entry entries → IsKey (made_by entries) entry
   pub located : IsLocated (made_by entries)
   pub apart : AreApartTrees (made_by entries)
+  pub supertypes : (entry : RecGroupEntry) → Among entry entries → TellsSupertypes (made_by entries) entry
 
 -- ---- a new entry
 
--- what an entry needs to be added: the next number, a key that no entry has, and indices of its own
+-- what an entry needs to be added: the next number, a key that no entry has, indices of its own, and the list of each
+-- member behind that of its supertype
 pub record IsNewKey (entries : List RecGroupEntry) (top : ℕ) (entry : RecGroupEntry) : Type 0 where
   pub number : entry.number ≡ top + 1
   pub key : IsKey (made_by entries) entry
@@ -79,6 +82,7 @@ pub record IsNewKey (entries : List RecGroupEntry) (top : ℕ) (entry : RecGroup
   pub unused : AreUnused (used (made_by entries)) entry.shared_type_indices
   pub distinct : AreDistinct entry.shared_type_indices
   pub within : (i : VMSharedTypeIndex) → Among i entry.shared_type_indices → i.0 < length (used (made_by entries)) + length entry.shared_type_indices
+  pub supertypes : FollowSupertypes entries entry.shared_type_indices entry.hash_consing_key.types entry.supertypes
 
 -- ---- every reference as an index
 

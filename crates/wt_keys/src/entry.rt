@@ -1,5 +1,6 @@
 //! What the registry keeps of one registered group.
 
+use crate::supertypes::SupertypeList;
 use wt_env::seq::Seq;
 use wt_env::types::{VMSharedTypeIndex, WasmRecGroup, WasmSubType};
 
@@ -18,6 +19,8 @@ pub struct RecGroupEntry {
     /// Of each member that is a function and not its own trampoline, the registration number of its trampoline's
     /// group.
     pub trampolines: Seq<Option<u64>>,
+    /// Of each member the indices of its declared supertypes.
+    pub supertypes: Seq<SupertypeList>,
     /// The index of each member.
     pub shared_type_indices: Seq<VMSharedTypeIndex>,
 }

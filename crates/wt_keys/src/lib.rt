@@ -5,5 +5,8 @@ pub mod entries;
 pub mod entry;
 pub mod files;
 pub mod marking;
+pub mod plain;
 pub mod search;
+pub mod steps;
 pub mod subtyping;
+pub mod supertypes;

@@ -36,7 +36,7 @@ pub fn place_of(indices: &[VMSharedTypeIndex], index: VMSharedTypeIndex) -> Opti
 }
 
 /// The entry of the type that has this index, in one list or behind it in another.
-fn joined_entry<'a>(
+pub fn joined_entry<'a>(
     entries: &'a RecGroupEntries,
     added: &'a RecGroupEntries,
     index: VMSharedTypeIndex,

@@ -1,59 +1,104 @@
-//! The sub types of registered types by their indices, and whether declared supertype steps lead from one to another: a walk
-//! from each type to what it declares. It rests on the searches of entries. Nothing here takes memory.
+//! Whether declared supertype steps lead from one registered type to another, by the lists that are kept of their
+//! supertypes: where the other is among them, it stands at the place that is the length of its own list. Nothing here
+//! takes memory.
 
-ghost use Rattle.std.specs.Prelude.{◌≡◌, ℕ, ◌++◌, IfSome, IsSome, option_and_then};
-ghost use Rattle.wt_tree.specs.Subtyping.{supertype_of as supertype_tree};
+ghost use Rattle.std.specs.Prelude.{◌≡◌, ℕ, ◌+◌, ◌<◌, ◌≤◌, ◌++◌, IsSome, slice_get};
 ghost use Rattle.wt_model.specs.Indices.{locate, closed_tree};
 ghost use Rattle.wt_model.specs.Subtyping.{is_subtype_index};
 ghost use Rattle.wt_keys.specs.Keys.{AreKeys, AreShown};
 ghost use Rattle.wt_keys.specs.Entries.{made_by};
+ghost use Rattle.wt_keys.specs.SupertypeChains.{is_index};
 
 use crate::entries::RecGroupEntries;
 use crate::search::borrow_joined;
+use crate::steps::Steps;
+use crate::supertypes::{SupertypeList, supertypes_of};
 use std::alloc::Global;
-use std::marker::Model;
+use std::marker::{Brand, Model};
+use std::sync::ledger::{Blank, Ledger};
 use wt_env::types::{VMSharedTypeIndex, WasmSubType};
-use wt_tree::supers::{Supers, Types, declared_index};
+use wt_tree::supers::{Supers, Types};
 
-/// The index of the type that a registered type declares as its supertype.
-fn supertype_of(
-    entries: &RecGroupEntries,
-    added: &RecGroupEntries,
+/// Whether this index stands at this place of a list of supertypes.
+fn stands_at<L: Ledger>(
+    list: &SupertypeList,
+    place: usize,
     index: VMSharedTypeIndex,
-) -> Option<VMSharedTypeIndex>
-    requires keys { (top : ℕ) × AreKeys (entries.now ++ added.now) top }
-    requires shown { AreShown (entries.now ++ added.now) }
-    requires registered { IsSome (locate (made_by (entries.now ++ added.now)) index) }
-    ensures declared { option_and_then (closed_tree (made_by (entries.now ++ added.now))) result ≡ option_and_then supertype_tree (closed_tree (made_by (entries.now ++ added.now)) index) }
-    ensures registered { IfSome result (λ supertype. IsSome (locate (made_by (entries.now ++ added.now)) supertype)) }
+    steps: &mut Steps<L>,
+) -> bool
+    ensures value { result ≡ is_index (slice_get list.now place) index }
+    ensures cost { steps.new ≡ steps.old + 1 }
 {
-    match borrow_joined(entries, added, index) {
-        Some(ty) => declared_index(ty),
-        None => None,
+    match list.at(place, steps) {
+        Some(supertype) => supertype.bits() == index.bits(),
+        None => false,
     }
 }
 
-/// Whether zero or more declared supertype steps lead from `sub` to `sup`, both registered.
-fn leads(
+/// Whether zero or more declared supertype steps lead from `sub` to `sup`, both registered. A step is one read of a
+/// place of a list.
+fn leads<L: Ledger>(
     entries: &RecGroupEntries,
     added: &RecGroupEntries,
     sub: VMSharedTypeIndex,
     sup: VMSharedTypeIndex,
+    steps: &mut Steps<L>,
 ) -> bool
     requires keys { (top : ℕ) × AreKeys (entries.now ++ added.now) top }
-    requires shown { AreShown (entries.now ++ added.now) }
     requires sub { IsSome (locate (made_by (entries.now ++ added.now)) sub) }
     requires sup { IsSome (locate (made_by (entries.now ++ added.now)) sup) }
+    ensures value { result ≡ is_subtype_index (made_by (entries.now ++ added.now)) sub sup }
+    ensures rises { steps.old ≤ steps.new }
+    ensures cost { steps.new ≤ steps.old + 1 }
+{
+    if sub.bits() == sup.bits() {
+        return true;
+    }
+    let Some(above) = supertypes_of(entries, added, sup) else {
+        return false;
+    };
+    match supertypes_of(entries, added, sub) {
+        Some(supertypes) => stands_at(supertypes, above.len(), sup, steps),
+        None => false,
+    }
+}
+
+/// The same, where nobody counts.
+fn leads_uncounted<L: Ledger>(
+    entries: &RecGroupEntries,
+    added: &RecGroupEntries,
+    sub: VMSharedTypeIndex,
+    sup: VMSharedTypeIndex,
+    blank: Blank,
+) -> bool
+    requires keys { (top : ℕ) × AreKeys (entries.now ++ added.now) top }
+    requires sub { IsSome (locate (made_by (entries.now ++ added.now)) sub) }
+    requires sup { IsSome (locate (made_by (entries.now ++ added.now)) sup) }
+    requires blank { (blank.name ≡ L.name) × (blank.parts ≡ L.parts) × (0 < L.parts) }
     ensures { result ≡ is_subtype_index (made_by (entries.now ++ added.now)) sub sup }
 {
-    let mut current = sub;
-    while current.bits() != sup.bits() {
-        match supertype_of(entries, added, current) {
-            Some(supertype) => current = supertype,
-            None => return false,
-        }
-    }
-    true
+    let mut steps = Steps::<L>::new(blank);
+    leads(entries, added, sub, sup, &mut steps)
+}
+
+/// Whether zero or more declared supertype steps lead from `sub` to `sup`, both registered. A step that is counted is
+/// one read of a place of a list of supertypes.
+pub fn is_subtype_counted_of<L: Ledger>(
+    alloc: Global,
+    entries: &RecGroupEntries,
+    sub: VMSharedTypeIndex,
+    sup: VMSharedTypeIndex,
+    steps: &mut Steps<L>,
+) -> bool
+    requires keys { (top : ℕ) × AreKeys entries.now top }
+    requires sub { IsSome (locate (made_by entries.now) sub) }
+    requires sup { IsSome (locate (made_by entries.now) sup) }
+    ensures value { result ≡ is_subtype_index (made_by entries.now) sub sup }
+    ensures rises { steps.old ≤ steps.new }
+    ensures cost { steps.new ≤ steps.old + 1 }
+{
+    let none = RecGroupEntries::new(alloc);
+    leads(entries, &none, sub, sup, steps)
 }
 
 /// Whether zero or more declared supertype steps lead from `sub` to `sup`, both registered.
@@ -64,13 +109,12 @@ pub fn is_subtype_of(
     sup: VMSharedTypeIndex,
 ) -> bool
     requires keys { (top : ℕ) × AreKeys entries.now top }
-    requires shown { AreShown entries.now }
     requires sub { IsSome (locate (made_by entries.now) sub) }
     requires sup { IsSome (locate (made_by entries.now) sup) }
     ensures { result ≡ is_subtype_index (made_by entries.now) sub sup }
 {
     let none = RecGroupEntries::new(alloc);
-    leads(entries, &none, sub, sup)
+    leads_uncounted::<Brand>(entries, &none, sub, sup, Blank::new(1))
 }
 
 /// Entries as what compares their types by index: those that are registered, and behind them others that are planned.
@@ -107,7 +151,7 @@ impl<'a> Supers for RegisteredTypes<'a> {
     ghost types = { λ entries. closed_tree (made_by entries) };
 
     fn is_subtype(&self, sub: VMSharedTypeIndex, sup: VMSharedTypeIndex) -> bool {
-        leads(self.entries, self.added, sub, sup)
+        leads_uncounted::<Brand>(self.entries, self.added, sub, sup, Blank::new(1))
     }
 }
 

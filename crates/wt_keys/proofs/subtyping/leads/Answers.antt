@@ -1,51 +1,30 @@
--- the walk goes one declared step on, to a smaller rank; it ends at the index that is looked for, or without a supertype
-use Rattle.std.proofs.Common.{◌≡◌, ℕ, sym, ap, ◌∙◌, ◌++◌}
-use Rattle.wt_env.specs.declared.types.VMSharedTypeIndex.{VMSharedTypeIndex}
-use Rattle.wt_env.specs.declared.types.EngineOrModuleTypeIndex.TheVariants as index
-use Rattle.wt_tree.specs.Fit.{named_by}
-use Rattle.wt_tree.proofs.Subtyping.{is_sub-refl}
-use Rattle.wt_tree.proofs.Walking.{walk-step, walk-end, walk-falls}
-use Rattle.wt_model.specs.Indices.{closed_tree}
-use Rattle.wt_model.specs.Subtyping.{is_subtype_index}
-use Rattle.wt_model.proofs.trees.KnownTrees.{closed-located}
-use Rattle.wt_keys.specs.Entries.{made_by}
-use Rattle.wt_keys.proofs.Supertypes.{entries-map}
+-- a type is its own subtype, and of others one place of a list tells
+use Rattle.std.proofs.Common.{◌≡◌, ◌++◌, Some, slice_get, sym, ap, ◌∙◌}
+use Rattle.std.specs.Option.{option_copied}
+use Rattle.wt_keys.specs.SupertypeChains.{list_of, is_index}
+use Rattle.wt_keys.proofs.ListedSubtypes.{own-subtype, listed-subtype, listed}
 use Rattle.wt_keys.proofs.subtyping.leads.Goals as goal
 
-pub loop-sup-smaller : goal.loop-sup-smaller
-loop-sup-smaller c =
-    let made = made_by (c.args.entries.now ++ c.args.added.now) in
-    let map = entries-map (c.args.entries.now ++ c.args.added.now) c.requires.keys.0 c.requires.keys.1 in
-    let here = closed-located made c.loop-sup.current ∙ c.loop-sup.invariant.0 in
-    let next = closed-located made c.in-Some.supertype ∙ c.in-Some.ensures.registered in
-    walk-falls (closed_tree made) map c.loop-sup.current c.in-Some.supertype here next c.in-Some.ensures.declared
+pub returns-then-bits-clause-value : goal.returns-then-bits-clause-value
+returns-then-bits-clause-value g c =
+    own-subtype (c.args.entries.now ++ c.args.added.now) c.requires.keys.0 c.requires.keys.1 c.args.sub c.args.sup (sym c.bits.ensures ∙ c.if-bits.true ∙ c.bits-2.ensures)
 
-pub loop-sup-preserved : goal.loop-sup-preserved
-loop-sup-preserved c =
-    let made = made_by (c.args.entries.now ++ c.args.added.now) in
-    let map = entries-map (c.args.entries.now ++ c.args.added.now) c.requires.keys.0 c.requires.keys.1 in
-    let here = closed-located made c.loop-sup.current ∙ c.loop-sup.invariant.0 in
-    let next = closed-located made c.in-Some.supertype ∙ c.in-Some.ensures.registered in
-    let goal-known = closed-located made c.args.sup ∙ c.requires.sup in
-    let differ : c.loop-sup.current ≡ c.args.sup → ⊥ = λ same. c.loop-sup-test.true (c.bits.ensures ∙ ap (λ (i : VMSharedTypeIndex). i.0) same ∙ sym c.bits-in-loop-sup.ensures) in (
-      c.in-Some.ensures.registered,
-      walk-step (closed_tree made) map c.loop-sup.current c.in-Some.supertype c.args.sup here next goal-known differ c.in-Some.ensures.declared ∙ c.loop-sup.invariant.1,
-    )
+pub returns-in_default-clause-value : goal.returns-in_default-clause-value
+returns-in_default-clause-value g c =
+    absurd (listed (c.args.entries.now ++ c.args.added.now) c.requires.keys.0 c.requires.keys.1 c.args.sup c.requires.sup (sym c.supertypes_of.ensures ∙ ap option_copied c.in_default.is))
 
-pub returns-in-None : goal.returns-in-None
-returns-in-None c =
-    let made = made_by (c.args.entries.now ++ c.args.added.now) in
-    let map = entries-map (c.args.entries.now ++ c.args.added.now) c.requires.keys.0 c.requires.keys.1 in
-    let here = closed-located made c.loop-sup.current ∙ c.loop-sup.invariant.0 in
-    let goal-known = closed-located made c.args.sup ∙ c.requires.sup in
-    let differ : c.loop-sup.current ≡ c.args.sup → ⊥ = λ same. c.loop-sup-test.true (c.bits.ensures ∙ ap (λ (i : VMSharedTypeIndex). i.0) same ∙ sym c.bits-in-loop-sup.ensures) in
-    sym (walk-end (closed_tree made) map c.loop-sup.current c.args.sup here goal-known differ (sym c.in-None.ensures.declared)) ∙ c.loop-sup.invariant.1
+pub returns-in-Some-supertypes_of-clause-value : goal.returns-in-Some-supertypes_of-clause-value
+returns-in-Some-supertypes_of-clause-value g c =
+    let all = c.args.entries.now ++ c.args.added.now in
+    let below = c.in-Some-supertypes_of.supertypes.now in
+    let above = c.in-Some.above.now in
+    let first : list_of all c.args.sub ≡ Some below = sym c.supertypes_of-2.ensures ∙ ap option_copied c.in-Some-supertypes_of.is in
+    let second : list_of all c.args.sup ≡ Some above = sym c.supertypes_of.ensures ∙ ap option_copied c.in-Some.is in
+    let differ : c.args.sub.0 ≡ c.args.sup.0 → ⊥ = λ same. c.if-bits.false (c.bits.ensures ∙ same ∙ sym c.bits-2.ensures) in
+    c.stands_at.ensures.value
+    ∙ ap (λ n. is_index (slice_get below n) c.args.sup) c.len.ensures
+    ∙ listed-subtype all c.requires.keys.0 c.requires.keys.1 c.args.sub c.args.sup below above differ first second
 
-pub returns : goal.returns
-returns c =
-    let made = made_by (c.args.entries.now ++ c.args.added.now) in
-    let bits : c.loop-sup.current.0 ≡ c.args.sup.0 = sym c.bits.ensures ∙ c.loop-sup-test.false ∙ c.bits-in-loop-sup.ensures in
-    let same : c.loop-sup.current ≡ c.args.sup = ap (λ (n : ℕ). record { 0 = n }) bits in
-    sym (is_sub-refl (named_by (closed_tree made) (index.Engine c.loop-sup.current)))
-    ∙ ap (λ (i : VMSharedTypeIndex). is_subtype_index made c.loop-sup.current i) same
-    ∙ c.loop-sup.invariant.1
+pub returns-in-None-clause-value : goal.returns-in-None-clause-value
+returns-in-None-clause-value g c =
+    absurd (listed (c.args.entries.now ++ c.args.added.now) c.requires.keys.0 c.requires.keys.1 c.args.sub c.requires.sub (sym c.supertypes_of-2.ensures ∙ ap option_copied c.in-None.is))

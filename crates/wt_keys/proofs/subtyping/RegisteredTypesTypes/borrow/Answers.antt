@@ -8,7 +8,7 @@ use Rattle.wt_model.proofs.trees.KnownTrees.{closed-located}
 use Rattle.wt_keys.specs.declared.entry.RecGroupEntry.{RecGroupEntry}
 use Rattle.wt_keys.specs.Entries.{made_by}
 use Rattle.wt_keys.proofs.Borrowed.{borrowed-located}
-use Rattle.wt_keys.proofs.Supertypes.{registered-shows}
+use Rattle.wt_keys.proofs.EntryTypes.{registered-shows}
 use Rattle.wt_keys.proofs.subtyping.RegisteredTypesTypes.borrow.Goals as goal
 
 pub returns-clause-found : goal.returns-clause-found

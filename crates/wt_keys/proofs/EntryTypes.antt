@@ -12,19 +12,12 @@ use Rattle.wt_model.proofs.subtyping.TypeMaps.{type-map}
 use Rattle.wt_keys.specs.declared.entry.RecGroupEntry.{RecGroupEntry}
 use Rattle.wt_keys.specs.Entries.{made_by}
 use Rattle.wt_keys.specs.Keys.{AreKeys}
-use Rattle.wt_keys.proofs.AddedKeys.{indexed, one_index, names_older, name_types}
+use Rattle.wt_keys.proofs.KeyedGroups.{keyed, keyed-typed}
 
 -- ---- the entries
 
 pub typed : (entries : List RecGroupEntry) (top : ℕ) → AreKeys entries top → AreTyped (made_by entries) top
-typed entries top keys = record {
-  rising = keys.rising;
-  one_index = one_index entries top keys;
-  names_older = names_older entries top keys;
-  is_located = keys.located;
-  indexed = indexed entries top keys;
-  name_types = name_types entries top keys;
-}
+typed entries top keys = keyed-typed entries top (keyed keys)
 
 pub entries-map : (entries : List RecGroupEntry) (top : ℕ) → AreKeys entries top → IsTypeMap (closed_tree (made_by entries))
 entries-map entries top keys = type-map (made_by entries) top (typed entries top keys)
