@@ -8,6 +8,7 @@ pub mod Planning
 pub mod PlannedTrampolines
 pub mod Checked
 pub mod CountedEdges
+pub mod FreeIndices
 pub mod NewIndices
 pub mod PlannedTrees
 pub mod RulesKept
@@ -16,3 +17,4 @@ pub mod PlannedGroups
 pub mod HostReferences
 pub mod HostPlans
 pub mod ExceptionPlans
+pub mod KeySupertypes

@@ -1,7 +1,9 @@
 -- The plan that the fields of one stand for.
-use Rattle.std.specs.Prelude.{◌≡◌, ℕ, ◌+◌, ◌<◌, ◌⊎◌, List, [], ◌∷◌, ◌++◌, length, map, Option, Some, true}
+use Rattle.std.specs.Prelude.{◌≡◌, ℕ, ◌+◌, ◌<◌, ◌⊎◌, List, [], ◌∷◌, ◌++◌, length, map, Option, Some, None, IsSome, true}
 use Rattle.wt_env.specs.Among.{Among}
 use Rattle.wt_env.specs.declared.types.VMSharedTypeIndex.{VMSharedTypeIndex}
+use Rattle.wt_env.specs.declared.types.EngineOrModuleTypeIndex.{EngineOrModuleTypeIndex}
+use Rattle.wt_env.specs.declared.types.EngineOrModuleTypeIndex.TheVariants as index
 use Rattle.wt_env.specs.declared.types.WasmSubType.{WasmSubType}
 use Rattle.wt_env.specs.declared.types.WasmRecGroup.{WasmRecGroup}
 use Rattle.wt_tree.specs.Canonical.{canonical_index}
@@ -19,11 +21,23 @@ use Rattle.wt_model.specs.Sound.{KeepRules}
 use Rattle.wt_keys.specs.declared.entry.RecGroupEntry.{RecGroupEntry}
 use Rattle.wt_keys.specs.Entries.{made_by}
 use Rattle.wt_keys.specs.Keys.{ResolvesTo, AreKeys, AreShown, IsNewKey}
+use Rattle.wt_indices.specs.Free.{FreeSet, AreFreeBeside}
 use Rattle.wt_plan.specs.declared.plan.Plan.{Plan as PlanFields}
 
 -- each reference that leaves these types is the index of a registered type
 abbrev pub AreResolved : List RegisteredGroup → List WasmSubType → Type 0
 AreResolved made types = (outer : List (ℕ × ℕ)) × ResolvesTo made types outer
+
+-- the free indices are those that no type has, of what stands and what was planned
+abbrev pub AreFreeFor : List RecGroupEntry → List RecGroupEntry → FreeSet → Type 0
+AreFreeFor entries added free = AreFreeBeside (used (made_by (entries ++ added))) free
+
+-- the supertype that a member of a key declares is registered, or is one of so many members before it
+abbrev pub HasList : List RegisteredGroup → ℕ → Option EngineOrModuleTypeIndex → Type 0
+HasList made many None = Unit {0}
+HasList made many (Some (index.Engine i)) = IsSome (locate made i)
+HasList made many (Some (index.Module n)) = ⊥
+HasList made many (Some (index.RecGroup k)) = k < many
 
 -- the plan over what is registered
 abbrev pub plan_of : List RecGroupEntry → PlanFields → Plan

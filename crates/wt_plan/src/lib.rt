@@ -5,3 +5,4 @@
 pub mod host_plan;
 pub mod module_plan;
 pub mod plan;
+pub mod supertypes;

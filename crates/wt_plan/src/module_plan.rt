@@ -11,12 +11,14 @@ ghost use Rattle.wt_model.specs.Sound.{KeepRules};
 ghost use Rattle.wt_model.specs.Plan.{plan_group as plan_group_of};
 ghost use Rattle.wt_keys.specs.Entries.{made_by};
 ghost use Rattle.wt_keys.specs.Keys.{KeyNamesTypes, AreKeys, AreShown};
-ghost use Rattle.wt_plan.specs.Planned.{plan_of, AreResolved, PlansOne, key_of, PlansGroup, AreNamed, PlansModule};
+ghost use Rattle.wt_plan.specs.Planned.{plan_of, AreResolved, PlansOne, key_of, PlansGroup, AreNamed, PlansModule, AreFreeFor};
+ghost use Rattle.wt_indices.specs.Free.{AreSameBefore};
 
 use crate::plan::{Plan, plan_key};
 use std::alloc::Global;
 use wt_env::memory::OutOfMemory;
 use wt_env::types::WasmRecGroup;
+use wt_indices::free_indices::FreeIndices;
 use wt_keys::entries::RecGroupEntries;
 use wt_keys::subtyping::RegisteredTypes;
 use wt_rules::place::{Place, Rule};
@@ -28,10 +30,12 @@ use wt_tree::map_refs::canonical_group;
 fn plan_group(
     alloc: Global,
     entries: &RecGroupEntries,
+    free: &mut FreeIndices,
     plan: &mut Plan,
     start: u32,
     group: &WasmRecGroup,
 ) -> Result<(), OutOfMemory>
+    requires free { AreFreeFor entries.now plan.old.added free.old }
     requires start { start ≡ length plan.old.map.items }
     requires keys { AreKeys (entries.now ++ plan.old.added) plan.old.given.numbers }
     requires named { AreResolved (made_by (entries.now ++ plan.old.added)) (key_of plan.old group.now) }
@@ -39,9 +43,11 @@ fn plan_group(
     ensures ok { OnOk result (plan_group_of (plan_of entries.now plan.old) group.now ≡ plan_of entries.now plan.new) }
     ensures keys { OnOk result (AreKeys (entries.now ++ plan.new.added) plan.new.given.numbers) }
     ensures one { OnOk result (PlansOne entries.now plan.old plan.new (key_of plan.old group.now)) }
+    ensures free { OnOk result (AreFreeFor entries.now plan.new.added free.new) }
+    ensures before { AreSameBefore free.old free.new }
 {
     let types = canonical_group(alloc, start, plan.map.as_slice(), group.types.as_slice())?;
-    plan_key(alloc, entries, plan, WasmRecGroup { types })
+    plan_key(alloc, entries, free, plan, WasmRecGroup { types })
 }
 
 /// The first of the types from this place of the plan on that breaks a rule on what it names, by its place behind there.
@@ -61,10 +67,12 @@ fn first_misnamed_from(entries: &RecGroupEntries, plan: &Plan, start: u32) -> Op
 fn plan_tested(
     alloc: Global,
     entries: &RecGroupEntries,
+    free: &mut FreeIndices,
     plan: &mut Plan,
     start: u32,
     group: &WasmRecGroup,
 ) -> Result<Option<(u32, Rule)>, OutOfMemory>
+    requires free { AreFreeFor entries.now plan.old.added free.old }
     requires start { start ≡ length plan.old.map.items }
     requires few { length plan.old.map.items + length group.now.types < 2 ^ 32 }
     requires keys { AreKeys (entries.now ++ plan.old.added) plan.old.given.numbers }
@@ -75,9 +83,11 @@ fn plan_tested(
     requires ordered { first_disorder_of (length plan.old.map.items) group.now.types ≡ None }
     ensures planned { IfOk result (λ broken. broken ≡ None → PlansGroup entries.now plan.old plan.new group.now) }
     ensures broken { IfOk result (λ broken. (known : List ClosedTree) → AreNamed entries.now plan.old known → broken ≡ first_misnamed_of (group_trees known group.now)) }
+    ensures free { OnOk result (AreFreeFor entries.now plan.new.added free.new) }
+    ensures before { AreSameBefore free.old free.new }
 {
     let before = plan.added.len();
-    plan_group(alloc, entries, plan, start, group)?;
+    plan_group(alloc, entries, free, plan, start, group)?;
     if plan.added.len() == before {
         return Ok(None);
     }
@@ -89,9 +99,11 @@ fn plan_tested(
 fn plan_checked(
     alloc: Global,
     entries: &RecGroupEntries,
+    free: &mut FreeIndices,
     plan: &mut Plan,
     group: &WasmRecGroup,
 ) -> Result<Option<(u32, Rule)>, OutOfMemory>
+    requires free { AreFreeFor entries.now plan.old.added free.old }
     requires few { length plan.old.map.items + length group.now.types < 2 ^ 32 }
     requires keys { AreKeys (entries.now ++ plan.old.added) plan.old.given.numbers }
     requires shown { AreShown (entries.now ++ plan.old.added) }
@@ -100,10 +112,12 @@ fn plan_checked(
     requires only { AreModuleTypes (group.now ∷ []) }
     ensures planned { IfOk result (λ broken. broken ≡ None → PlansGroup entries.now plan.old plan.new group.now) }
     ensures broken { IfOk result (λ broken. (known : List ClosedTree) → AreNamed entries.now plan.old known → broken ≡ broken_in known group.now) }
+    ensures free { OnOk result (AreFreeFor entries.now plan.new.added free.new) }
+    ensures before { AreSameBefore free.old free.new }
 {
     let start = plan.map.as_slice().len() as u32;
     match first_disorder(start, group.types.as_slice()) {
-        None => plan_tested(alloc, entries, plan, start, group),
+        None => plan_tested(alloc, entries, free, plan, start, group),
         disorder => Ok(disorder),
     }
 }
@@ -126,9 +140,11 @@ fn misplaced(group: usize, broken: (u32, Rule)) -> (Place, Rule)
 pub fn plan_groups(
     alloc: Global,
     entries: &RecGroupEntries,
+    free: &mut FreeIndices,
     plan: &mut Plan,
     groups: &[WasmRecGroup],
 ) -> Result<Option<(Place, Rule)>, OutOfMemory>
+    requires free { AreFreeFor entries.now plan.old.added free.old }
     requires empty { (plan.old.added ≡ []) × (plan.old.numbers.items ≡ []) × (plan.old.map.items ≡ []) }
     requires keys { AreKeys entries.now plan.old.given.numbers }
     requires shown { AreShown entries.now }
@@ -137,9 +153,11 @@ pub fn plan_groups(
     requires named { AreModuleTypes groups.now }
     ensures broken { IfOk result (λ broken. broken ≡ first_broken groups.now) }
     ensures planned { IfOk result (λ broken. broken ≡ None → PlansModule entries.now plan.old plan.new groups.now) }
+    ensures free { OnOk result (AreFreeFor entries.now plan.new.added free.new) }
+    ensures before { AreSameBefore free.old free.new }
 {
     for (number, group) in groups.iter().enumerate() {
-        if let Some(broken) = plan_checked(alloc, entries, plan, group)? {
+        if let Some(broken) = plan_checked(alloc, entries, free, plan, group)? {
             return Ok(Some(misplaced(number, broken)));
         }
     }

@@ -16,12 +16,15 @@ ghost use Rattle.wt_keys.specs.Entries.{made_of, made_by};
 ghost use Rattle.wt_keys.specs.Filed.{AreApart};
 ghost use Rattle.wt_keys.specs.Keys.{ResolvesTo, named_at, KeyNamesTypes, AreKeys, IsNewKey, own_shown};
 ghost use Rattle.wt_model.specs.Plan.{with_new, plan_trampoline as plan_trampoline_of, plan_trampolines as plan_trampolines_of, plan_key as plan_key_of};
-ghost use Rattle.wt_plan.specs.Planned.{plan_of, AreResolved, PlansAlone, PlansTold, PlansTrampolines, PlansOne};
+ghost use Rattle.wt_plan.specs.Planned.{plan_of, AreResolved, PlansAlone, PlansTold, PlansTrampolines, PlansOne, AreFreeFor};
+ghost use Rattle.wt_indices.specs.Free.{AreSameBefore};
 
+use crate::supertypes::supertypes_of_key;
 use std::alloc::Global;
 use wt_env::memory::OutOfMemory;
 use wt_env::seq::Seq;
 use wt_env::types::{EngineOrModuleTypeIndex, VMSharedTypeIndex, WasmRecGroup, WasmSubType};
+use wt_indices::free_indices::FreeIndices;
 use wt_keys::entries::RecGroupEntries;
 use wt_keys::entry::RecGroupEntry;
 use wt_keys::search::locate_index;
@@ -72,49 +75,6 @@ fn find_planned<'a>(
         Some(entry) => Some(entry),
         None => added.find_group(key),
     }
-}
-
-/// Whether one of these indices has these bits.
-fn is_taken(taken: &[VMSharedTypeIndex], candidate: u32) -> bool
-    ensures { result ≡ list_any (λ i. i.0 == candidate) taken.now }
-{
-    taken.iter().any(|index| index.bits() == candidate)
-}
-
-/// Whether an index is used by what stands, by what was planned, or by what was taken.
-fn is_planned(
-    entries: &RecGroupEntries,
-    added: &RecGroupEntries,
-    taken: &[VMSharedTypeIndex],
-    candidate: u32,
-) -> bool
-    ensures { result ≡ is_used_number (map (λ i. i.0) taken.now ++ used (made_by (entries.now ++ added.now))) candidate }
-{
-    if is_taken(taken, candidate) {
-        return true;
-    }
-    entries.is_used(candidate) || added.is_used(candidate)
-}
-
-/// The so many smallest indices that are free, in order.
-fn assign_shared_type_indices(
-    alloc: Global,
-    entries: &RecGroupEntries,
-    added: &RecGroupEntries,
-    count: usize,
-) -> Result<Seq<VMSharedTypeIndex>, OutOfMemory>
-    ensures { IfOk result (λ indices. indices ≡ free_indices_of count (used (made_by (entries.now ++ added.now)))) }
-{
-    let mut taken = Seq::new(alloc);
-    let mut candidate: u32 = 0;
-    while taken.len() < count {
-        if is_planned(entries, added, taken.as_slice(), candidate) {
-            candidate = candidate.checked_add(1).ok_or(OutOfMemory)?;
-        } else {
-            taken.push(VMSharedTypeIndex::new(candidate))?;
-        }
-    }
-    Ok(taken)
 }
 
 /// The registration number and place of the type that has this index.
@@ -206,11 +166,13 @@ fn shown_members(
 fn new_entry(
     alloc: Global,
     entries: &RecGroupEntries,
+    free: &mut FreeIndices,
     added: &RecGroupEntries,
     numbers: u64,
     key: WasmRecGroup,
     trampolines: Seq<Option<u64>>,
 ) -> Result<RecGroupEntry, OutOfMemory>
+    requires free { AreFreeFor entries.now added.now free.old }
     requires keys { AreKeys (entries.now ++ added.now) numbers }
     requires named { AreResolved (made_by (entries.now ++ added.now)) key.types }
     requires slots { KeyNamesTypes key.types }
@@ -226,17 +188,22 @@ fn new_entry(
     ensures group { IfOk result (λ entry. entry.hash_consing_key ≡ key) }
     ensures trampolines { IfOk result (λ entry. entry.trampolines ≡ trampolines) }
     ensures shown { IfOk result (λ entry. entry.runtime_types ≡ group_over (own_shown entry.shared_type_indices) entry.hash_consing_key.types) }
+    ensures free { IfOk result (λ entry. AreFreeFor entries.now (added.now ++ entry ∷ []) free.new) }
+    ensures before { AreSameBefore free.old free.new }
 {
     let number = numbers.checked_add(1).ok_or(OutOfMemory)?;
     let outer = outer_of(alloc, entries, added, key.types.as_slice())?;
-    let indices = assign_shared_type_indices(alloc, entries, added, key.types.len())?;
+    let indices = free.assign_shared_type_indices(alloc, key.types.len())?;
     let shown = shown_members(alloc, indices.as_slice(), key.types.as_slice())?;
+    let own = indices.as_slice();
+    let supertypes = supertypes_of_key(alloc, entries, added, own, key.types.as_slice())?;
     Ok(RecGroupEntry {
         number,
         hash_consing_key: key,
         runtime_types: shown,
         outer,
         trampolines,
+        supertypes,
         shared_type_indices: indices,
     })
 }
@@ -295,14 +262,18 @@ fn add_entry(plan: &mut Plan, entry: RecGroupEntry) -> Result<(), OutOfMemory>
 fn plan_alone(
     alloc: Global,
     entries: &RecGroupEntries,
+    free: &mut FreeIndices,
     plan: &mut Plan,
     member: WasmSubType,
 ) -> Result<u64, OutOfMemory>
+    requires free { AreFreeFor entries.now plan.old.added free.old }
     requires own { own_test member ≡ true }
     requires keys { AreKeys (entries.now ++ plan.old.added) plan.old.given.numbers }
     ensures ok { OnOk result (plan_trampoline_of (plan_of entries.now plan.old) (Some member) ≡ plan_of entries.now plan.new) }
     ensures keys { OnOk result (AreKeys (entries.now ++ plan.new.added) plan.new.given.numbers) }
     ensures alone { IfOk result (λ number. PlansAlone entries.now plan.old plan.new member number) }
+    ensures free { OnOk result (AreFreeFor entries.now plan.new.added free.new) }
+    ensures before { AreSameBefore free.old free.new }
 {
     let key = WasmRecGroup::alone(alloc, member)?;
     if let Some(alone) = find_planned(entries, &plan.added, &key) {
@@ -310,7 +281,7 @@ fn plan_alone(
     }
     let told = Seq::one(alloc, None)?;
     let added = &plan.added;
-    let entry = new_entry(alloc, entries, added, plan.given.numbers, key, told)?;
+    let entry = new_entry(alloc, entries, free, added, plan.given.numbers, key, told)?;
     let number = entry.number;
     add_entry(plan, entry)?;
     Ok(number)
@@ -321,16 +292,20 @@ fn plan_alone(
 fn plan_trampoline(
     alloc: Global,
     entries: &RecGroupEntries,
+    free: &mut FreeIndices,
     plan: &mut Plan,
     ty: &WasmSubType,
 ) -> Result<Option<u64>, OutOfMemory>
-    requires { AreKeys (entries.now ++ plan.old.added) plan.old.given.numbers }
+    requires free { AreFreeFor entries.now plan.old.added free.old }
+    requires keys { AreKeys (entries.now ++ plan.old.added) plan.old.given.numbers }
     ensures ok { OnOk result (plan_trampoline_of (plan_of entries.now plan.old) (other_of ty.now) ≡ plan_of entries.now plan.new) }
     ensures keys { OnOk result (AreKeys (entries.now ++ plan.new.added) plan.new.given.numbers) }
     ensures told { IfOk result (λ told. PlansTold entries.now plan.old plan.new (other_of ty.now) told) }
+    ensures free { OnOk result (AreFreeFor entries.now plan.new.added free.new) }
+    ensures before { AreSameBefore free.old free.new }
 {
     match other_trampoline(alloc, ty)? {
-        Some(member) => Ok(Some(plan_alone(alloc, entries, plan, member)?)),
+        Some(member) => Ok(Some(plan_alone(alloc, entries, free, plan, member)?)),
         None => Ok(None),
     }
 }
@@ -339,15 +314,19 @@ fn plan_trampoline(
 fn plan_trampolines(
     alloc: Global,
     entries: &RecGroupEntries,
+    free: &mut FreeIndices,
     plan: &mut Plan,
     types: &[WasmSubType],
 ) -> Result<Seq<Option<u64>>, OutOfMemory>
-    requires { AreKeys (entries.now ++ plan.old.added) plan.old.given.numbers }
-    ensures { IfOk result (λ told. PlansTrampolines entries.now plan.old plan.new types.now told) }
+    requires free { AreFreeFor entries.now plan.old.added free.old }
+    requires keys { AreKeys (entries.now ++ plan.old.added) plan.old.given.numbers }
+    ensures planned { IfOk result (λ told. PlansTrampolines entries.now plan.old plan.new types.now told) }
+    ensures free { OnOk result (AreFreeFor entries.now plan.new.added free.new) }
+    ensures before { AreSameBefore free.old free.new }
 {
     let mut told = Seq::new(alloc);
     for ty in types {
-        told.push(plan_trampoline(alloc, entries, plan, ty)?)?;
+        told.push(plan_trampoline(alloc, entries, free, plan, ty)?)?;
     }
     Ok(told)
 }
@@ -370,9 +349,11 @@ fn add_occurrence(
 fn plan_new(
     alloc: Global,
     entries: &RecGroupEntries,
+    free: &mut FreeIndices,
     plan: &mut Plan,
     key: WasmRecGroup,
 ) -> Result<(), OutOfMemory>
+    requires free { AreFreeFor entries.now plan.old.added free.old }
     requires keys { AreKeys (entries.now ++ plan.old.added) plan.old.given.numbers }
     requires named { AreResolved (made_by (entries.now ++ plan.old.added)) key.types }
     requires slots { KeyNamesTypes key.types }
@@ -380,10 +361,12 @@ fn plan_new(
     ensures ok { OnOk result (with_new (plan_trampolines_of (plan_of entries.now plan.old) key.types) key.types ≡ plan_of entries.now plan.new) }
     ensures keys { OnOk result (AreKeys (entries.now ++ plan.new.added) plan.new.given.numbers) }
     ensures one { OnOk result (PlansOne entries.now plan.old plan.new key.types) }
+    ensures free { OnOk result (AreFreeFor entries.now plan.new.added free.new) }
+    ensures before { AreSameBefore free.old free.new }
 {
-    let told = plan_trampolines(alloc, entries, plan, key.types.as_slice())?;
+    let told = plan_trampolines(alloc, entries, free, plan, key.types.as_slice())?;
     let added = &plan.added;
-    let entry = new_entry(alloc, entries, added, plan.given.numbers, key, told)?;
+    let entry = new_entry(alloc, entries, free, added, plan.given.numbers, key, told)?;
     add_occurrence(&mut plan.numbers, &mut plan.map, &entry)?;
     add_entry(plan, entry)?;
     Ok(())
@@ -394,18 +377,22 @@ fn plan_new(
 pub fn plan_key(
     alloc: Global,
     entries: &RecGroupEntries,
+    free: &mut FreeIndices,
     plan: &mut Plan,
     key: WasmRecGroup,
 ) -> Result<(), OutOfMemory>
+    requires free { AreFreeFor entries.now plan.old.added free.old }
     requires keys { AreKeys (entries.now ++ plan.old.added) plan.old.given.numbers }
     requires named { AreResolved (made_by (entries.now ++ plan.old.added)) key.types }
     requires slots { KeyNamesTypes key.types }
     ensures ok { OnOk result (plan_key_of (plan_of entries.now plan.old) key.types ≡ plan_of entries.now plan.new) }
     ensures keys { OnOk result (AreKeys (entries.now ++ plan.new.added) plan.new.given.numbers) }
     ensures one { OnOk result (PlansOne entries.now plan.old plan.new key.types) }
+    ensures free { OnOk result (AreFreeFor entries.now plan.new.added free.new) }
+    ensures before { AreSameBefore free.old free.new }
 {
     if let Some(entry) = find_planned(entries, &plan.added, &key) {
         return add_occurrence(&mut plan.numbers, &mut plan.map, entry);
     }
-    plan_new(alloc, entries, plan, key)
+    plan_new(alloc, entries, free, plan, key)
 }

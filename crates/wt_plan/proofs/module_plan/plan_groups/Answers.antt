@@ -43,6 +43,8 @@ loop-number-preserved c =
           ∙ broken-later n known group (drop (n + 1) groups) (sym none ∙ c.in_ok-broken.ensures.broken known c.loop-number.invariant.plans.named)
           ∙ ap (first_broken_from n known) (sym left)
           ∙ c.loop-number.invariant.search;
+      free = c.in_ok-broken.ensures.free;
+      before = λ k. c.in_ok-broken.ensures.before k ∙ c.loop-number.invariant.before k;
     }
 
 pub returns-clause-planned : goal.returns-clause-planned

@@ -16,7 +16,12 @@ loop-ty-preserved c =
     let ty = c.ty-item.result in
     let one = c.in_ok-plan_trampoline.field-0 in
     let members : take (n + 1) types ≡ take n types ++ ty ∷ [] = take_more types n ty c.loop-ty-test.true ∙ ap (λ (last : WasmSubType). take n types ++ last ∷ []) (sym c.ty-item.is) in
-    subst (λ (so_far : List WasmSubType). PlansTrampolines entries before after so_far c.push.new.self) (sym members)
-    (subst (λ (told : List (Option ℕ)). PlansTrampolines entries before after (take n types ++ ty ∷ []) told) (sym c.in_ok-push.ensures.ok)
-    (trampolines-more entries before c.loop-ty.plan after (take n types) c.loop-ty.told ty one c.loop-ty.invariant
-    c.in_ok-plan_trampoline.ensures.told c.in_ok-plan_trampoline.ensures.ok c.in_ok-plan_trampoline.ensures.keys))
+    record {
+      planned =
+          subst (λ (so_far : List WasmSubType). PlansTrampolines entries before after so_far c.push.new.self) (sym members)
+          (subst (λ (told : List (Option ℕ)). PlansTrampolines entries before after (take n types ++ ty ∷ []) told) (sym c.in_ok-push.ensures.ok)
+          (trampolines-more entries before c.loop-ty.plan after (take n types) c.loop-ty.told ty one c.loop-ty.invariant.planned
+          c.in_ok-plan_trampoline.ensures.told c.in_ok-plan_trampoline.ensures.ok c.in_ok-plan_trampoline.ensures.keys));
+      free = c.in_ok-plan_trampoline.ensures.free;
+      before = λ k. c.in_ok-plan_trampoline.ensures.before k ∙ c.loop-ty.invariant.before k;
+    }
