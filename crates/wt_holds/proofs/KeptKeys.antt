@@ -1,9 +1,19 @@
 -- What is true of the keys of all registered groups stays true of those that are kept, where what they lead to is
 -- kept.
-use Rattle.std.proofs.Common.{◌≡◌, ℕ, inl, inr, Bool, true, List, [], ◌∷◌, map, Some, refl, sym, subst, ◌∙◌}
+use Rattle.std.proofs.Common.{◌≡◌, ℕ, inl, inr, Bool, true, List, [], ◌∷◌, map, reverse, slice_get, Some, option_map, refl, sym, ap, subst, ◌∙◌, arith}
+use Rattle.std.proofs.lemmas.Option.{slice_get_within}
+use Rattle.wt_env.specs.declared.types.VMSharedTypeIndex.{VMSharedTypeIndex}
 use Rattle.wt_env.specs.declared.types.EngineOrModuleTypeIndex.{EngineOrModuleTypeIndex}
 use Rattle.wt_env.specs.declared.types.EngineOrModuleTypeIndex.TheVariants as index
 use Rattle.wt_tree.specs.References.{group_refs}
+use Rattle.wt_tree.specs.Tree.{Tree, ClosedTree}
+use Rattle.wt_model.specs.Trees.{trees}
+use Rattle.wt_model.specs.Indices.{closed_tree}
+use Rattle.wt_model.proofs.subtyping.NamedIndices.{get_within}
+use Rattle.wt_keys.specs.SupertypeChains.{IsSupertypeChain, TellsSupertypes}
+use Rattle.wt_keys.proofs.SupertypeLists.{chain-kept}
+use Rattle.wt_keys.proofs.KeyedGroups.{AreKeyed, keyed-map}
+use Rattle.wt_keys.proofs.EntryTypes.{entries-map}
 use Rattle.wt_keys.specs.declared.entry.RecGroupEntry.{RecGroupEntry}
 use Rattle.wt_model.specs.Registered.{RegisteredGroup}
 use Rattle.wt_env.specs.Among.{Among}
@@ -16,7 +26,7 @@ use Rattle.wt_keys.specs.Keys.{AreShown}
 use Rattle.wt_holds.specs.Marks.{kept_entries}
 use Rattle.wt_env.proofs.lists.Filtered.{among_filter}
 use Rattle.wt_env.proofs.lists.Mapped.{among_mapped}
-use Rattle.wt_model.proofs.removal.KeptPart.{KeepsLed, KeepsNamed, led-named, among-kept, kept-among, rising-kept, trees-kept, locate-kept, is_located-kept, names_types-kept, have_trampolines-kept}
+use Rattle.wt_model.proofs.removal.KeptPart.{KeepsLed, KeepsNamed, led-named, among-kept, kept-among, rising-kept, trees-kept, locate-kept, is_located-kept, names_types-kept, have_trampolines-kept, closed_tree-kept}
 use Rattle.wt_keys.proofs.KeyTrampolines.{have_trampolines}
 use Rattle.wt_env.proofs.lists.Members.{first_same, rest_same}
 use Rattle.wt_holds.proofs.marks.Marked.{made-kept}
@@ -57,8 +67,8 @@ apart-kept keep made named apart a b at bt same =
 
 -- ---- all that is true of keys
 
-pub keys-kept : (keep : ℕ → Bool) (entries : List RecGroupEntry) (top : ℕ) → AreKeys entries top → KeepsLed keep (made_by entries) → AreKeys (kept_entries keep entries) top
-keys-kept keep entries top keys led = record {
+keyed-kept : (keep : ℕ → Bool) (entries : List RecGroupEntry) (top : ℕ) → AreKeys entries top → KeepsLed keep (made_by entries) → AreKeyed (kept_entries keep entries) top
+keyed-kept keep entries top keys led = record {
   rising = subst (λ (made : List RegisteredGroup). IsRising 0 made top) (sym same) (rising-kept keep 0 top (made_by entries) keys.rising);
   keys = λ entry at.
       let found = among_filter (λ (e : RecGroupEntry). keep e.number) entries entry at in
@@ -79,6 +89,54 @@ keys-kept keep entries top keys led = record {
     tell entry at passes =
         have_trampolines-kept keep (made_by entries) led (have_trampolines entries top keys) (made_of entry)
         (kept-among keep (made_by entries) (made_of entry) (among_mapped made_of entries entry at) passes)
+
+-- each index of what is kept had the closed tree that it has
+tree-before : (keep : ℕ → Bool) (entries : List RecGroupEntry) (top : ℕ) → AreKeys entries top → KeepsLed keep (made_by entries) → (i : VMSharedTypeIndex) (t : ClosedTree)
+    → closed_tree (made_by (kept_entries keep entries)) i ≡ Some t → closed_tree (made_by entries) i ≡ Some t
+tree-before keep entries top keys led i t is =
+    closed_tree-kept keep (made_by entries) (led-named keep (made_by entries) led) keys.located i t (ap (λ (made : List RegisteredGroup). closed_tree made i) (sym (made-kept keep entries)) ∙ is)
+
+-- the supertypes of what is kept are told still
+supertypes-kept : (keep : ℕ → Bool) (entries : List RecGroupEntry) (top : ℕ) → AreKeys entries top → KeepsLed keep (made_by entries) → (entry : RecGroupEntry) → Among entry (kept_entries keep entries)
+    → TellsSupertypes (made_by (kept_entries keep entries)) entry
+supertypes-kept keep entries top keys led entry at = record { lists = tells.lists; chains = chains }
+  where
+    found : Among entry entries × (keep entry.number ≡ true)
+    found = among_filter (λ (e : RecGroupEntry). keep e.number) entries entry at
+
+    tells : TellsSupertypes (made_by entries) entry
+    tells = keys.supertypes entry found.0
+
+    kept : AreKeyed (kept_entries keep entries) top
+    kept = keyed-kept keep entries top keys led
+
+    tree : trees (made_by (kept_entries keep entries)) entry.number ≡ trees (made_by entries) entry.number
+    tree = ap (λ (made : List RegisteredGroup). trees made entry.number) (made-kept keep entries) ∙ trees-kept keep (made_by entries) entry.number (led-named keep (made_by entries) led) found.1
+
+    chains : (place : ℕ) (list : List VMSharedTypeIndex) → slice_get entry.supertypes place ≡ Some list
+        → IsSupertypeChain (closed_tree (made_by (kept_entries keep entries))) (record { tree = trees (made_by (kept_entries keep entries)) entry.number; place = place }) (reverse list)
+    chains place list stands =
+        let within = slice_get_within entry.supertypes place list stands in
+        let lists = tells.lists in
+        let members = (keys.keys entry found.0).members in
+        let i = get_within entry.shared_type_indices place (omega (arith, within, lists, members)) in
+        let here : closed_tree (made_by (kept_entries keep entries)) i.0 ≡ Some (record { tree = trees (made_by entries) entry.number; place = place }) =
+        ap (option_map (λ (at : ℕ × ℕ). record { tree = trees (made_by (kept_entries keep entries)) at.0; place = at.1 })) (kept.located (made_of entry) place i.0 (among_mapped made_of (kept_entries keep entries) entry at) i.1)
+        ∙ ap (λ (t : Tree). Some (record { tree = t; place = place })) tree in
+        subst (λ (t : Tree). IsSupertypeChain (closed_tree (made_by (kept_entries keep entries))) (record { tree = t; place = place }) (reverse list)) (sym tree)
+        (chain-kept (closed_tree (made_by entries)) (closed_tree (made_by (kept_entries keep entries))) (entries-map entries top keys) (keyed-map (kept_entries keep entries) top kept) (tree-before keep entries top keys led)
+        (record { tree = trees (made_by entries) entry.number; place = place }) i.0 (reverse list) here (tells.chains place list stands))
+
+pub keys-kept : (keep : ℕ → Bool) (entries : List RecGroupEntry) (top : ℕ) → AreKeys entries top → KeepsLed keep (made_by entries) → AreKeys (kept_entries keep entries) top
+keys-kept keep entries top keys led =
+    let kept = keyed-kept keep entries top keys led in
+    record {
+      rising = kept.rising;
+      keys = kept.keys;
+      located = kept.located;
+      apart = kept.apart;
+      supertypes = supertypes-kept keep entries top keys led;
+    }
 
 pub shown-kept : (keep : ℕ → Bool) (entries : List RecGroupEntry) → AreShown entries → AreShown (kept_entries keep entries)
 shown-kept keep entries shown entry at = shown entry (among_filter (λ (e : RecGroupEntry). keep e.number) entries entry at).0

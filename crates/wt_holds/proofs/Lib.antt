@@ -7,3 +7,4 @@ pub mod Losing
 pub mod PartKept
 pub mod Ready
 pub mod marks
+pub mod GivenBack

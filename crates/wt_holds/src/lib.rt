@@ -2,6 +2,7 @@
 //! isn't. Nothing here takes memory but a row of counts for a new group.
 #![tactic(auto)]
 
+pub mod giving_back;
 pub mod hold_counts;
 pub mod inner;
 pub mod marking;

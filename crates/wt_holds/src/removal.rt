@@ -13,12 +13,15 @@ ghost use Rattle.wt_holds.specs.Counts.{standings_of};
 ghost use Rattle.wt_keys.specs.Entries.{made_by};
 ghost use Rattle.wt_holds.specs.Kept.{registry_at};
 ghost use Rattle.wt_holds.specs.Kept.{AreKept, IsReady};
+ghost use Rattle.wt_holds.specs.GivenBack.{AreSeparate, HasFree};
 ghost use Rattle.wt_holds.specs.Marks.{kept_entries};
 
+use crate::giving_back::give_back_unmarked;
 use crate::hold_counts::{HoldCounts, entry_place, has_number, is_held, lose, set_waits, waits};
 use crate::inner::TypeRegistryInner;
 use crate::marking::mark_reached;
 use wt_env::limits::Engine;
+use wt_indices::free_indices::FreeIndices;
 use wt_keys::marking::remove_unmarked;
 use wt_model::swept::Swept;
 
@@ -57,13 +60,17 @@ fn is_marked(groups: &TypeRegistryInner, number: u64) -> bool
 }
 
 /// Removes what isn't reached any more. It takes no memory.
-fn remove_unreached(groups: &mut TypeRegistryInner)
-    requires { IsReady groups.old }
+fn remove_unreached(groups: &mut TypeRegistryInner, free: &mut FreeIndices)
+    requires ready { IsReady groups.old }
+    requires separate { AreSeparate groups.old.entries }
+    requires free { HasFree (made_by groups.old.entries) free.old }
     ensures part { (engine : EngineParts) → reached_part (registry_at engine groups.old) ≡ registry_at engine groups.new }
     ensures entries { groups.new.entries ≡ kept_entries (is_reached (made_by groups.old.entries) (is_root (standings_of groups.old.counts.items))) groups.old.entries }
     ensures marks { length groups.new.marks.items ≡ length groups.new.entries }
+    ensures free { HasFree (made_by groups.new.entries) free.new }
 {
     mark(groups);
+    give_back_unmarked(free, groups.entries.as_slice(), groups.marks.as_slice());
     groups.entries.remove_unmarked(groups.marks.as_slice());
     remove_unmarked(&mut groups.counts, groups.marks.as_slice());
     groups.marks.truncate(groups.entries.len());
@@ -93,16 +100,19 @@ pub fn end_hold(
 }
 
 /// Sweeps the group of a debt: where it waits, it is removed with all that only it reached. It takes no memory.
-pub fn sweep_group(groups: &mut TypeRegistryInner, number: u64) -> Swept
+pub fn sweep_group(groups: &mut TypeRegistryInner, free: &mut FreeIndices, number: u64) -> Swept
     requires few { length groups.old.entries < 2 ^ 32 }
     requires ready { IsReady groups.old }
+    requires separate { AreSeparate groups.old.entries }
+    requires free { HasFree (made_by groups.old.entries) free.old }
+    ensures free { HasFree (made_by groups.new.entries) free.new }
     ensures swept { (engine : EngineParts) → sweep_debt (registry_at engine groups.old) number ≡ (result, registry_at engine groups.new) }
     ensures kept { (engine : EngineParts) → AreKept engine groups.old → AreKept engine groups.new }
 {
     if waits(groups.counts.as_slice(), number) {
         let before = groups.entries.len();
         set_waits(&mut groups.counts, number, false);
-        remove_unreached(groups);
+        remove_unreached(groups, free);
         return Swept::Removed((before - groups.entries.len()) as u32);
     }
     if has_number(groups.entries.as_slice(), number) {
@@ -124,13 +134,21 @@ fn lose_each(counts: &mut Vec<HoldCounts>, party: u32, numbers: &[u64])
 }
 
 /// Ends holds of a party, and removes what isn't reached any more. It takes no memory.
-pub fn release_groups(engine: &Engine, groups: &mut TypeRegistryInner, party: u32, numbers: &[u64])
+pub fn release_groups(
+    engine: &Engine,
+    groups: &mut TypeRegistryInner,
+    free: &mut FreeIndices,
+    party: u32,
+    numbers: &[u64],
+)
     requires kept { AreKept engine.now groups.old }
     requires party { party < engine.now.limits.parties }
     requires held { (number : ℕ) → times number numbers.now ≤ held_at (standings_of groups.old.counts.items) party number }
+    requires free { HasFree (made_by groups.old.entries) free.old }
+    ensures free { HasFree (made_by groups.new.entries) free.new }
     ensures released { release_holds (registry_at engine.now groups.old) party numbers.now ≡ registry_at engine.now groups.new }
     ensures kept { AreKept engine.now groups.new }
 {
     lose_each(&mut groups.counts, party, numbers);
-    remove_unreached(groups);
+    remove_unreached(groups, free);
 }

@@ -9,6 +9,7 @@ use Rattle.wt_holds.specs.Kept.{registry_at}
 use Rattle.wt_holds.proofs.Counted.{counted, has_place}
 use Rattle.wt_holds.proofs.Losing.{numbers-fewer_of}
 use Rattle.wt_holds.proofs.PartKept.{counted_as, part-keeps}
+use Rattle.wt_holds.proofs.GivenBack.{keys-separate}
 use Rattle.wt_holds.proofs.Ready.{ready, ready-counts}
 use Rattle.wt_model.proofs.removal.Removing.{release-stands}
 use Rattle.wt_holds.proofs.removal.release_groups.Goals as goal
@@ -21,8 +22,12 @@ lose_each-requires-clause-parties c =
 pub remove_unreached-requires : goal.remove_unreached-requires
 remove_unreached-requires c =
     let groups = c.args.groups.now in
-    ready-counts groups c.lose_each.new.counts (ready c.args.engine.now groups c.requires.kept)
-    (ap (map (λ (s : GroupHolds). s.number)) c.lose_each.ensures ∙ numbers-fewer_of c.args.party c.args.numbers.now (standings_of groups.counts.items))
+    record {
+      ready = ready-counts groups c.lose_each.new.counts (ready c.args.engine.now groups c.requires.kept)
+          (ap (map (λ (s : GroupHolds). s.number)) c.lose_each.ensures ∙ numbers-fewer_of c.args.party c.args.numbers.now (standings_of groups.counts.items));
+      separate = keys-separate groups.entries groups.given.numbers c.requires.kept.keys;
+      free = c.requires.free;
+    }
 
 pub returns-clause-released : goal.returns-clause-released
 returns-clause-released c =

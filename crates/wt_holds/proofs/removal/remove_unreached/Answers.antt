@@ -17,7 +17,7 @@ pub returns-clause-entries : goal.returns-clause-entries
 returns-clause-entries c =
     let groups = c.args.groups.now in
     let keep : ℕ → Bool = is_reached (made_by groups.entries) (is_root (standings_of groups.counts.items)) in
-    let marks = c.as_slice.ensures.value ∙ c.mark.ensures.marks in
+    let marks = c.as_slice-3.ensures.value ∙ c.mark.ensures.marks in
     c.remove_unmarked.ensures ∙ ((λ i. marked_items (marks i) (c.mark.ensures.entries i)) ∙ entries-marked keep groups.entries)
 
 pub returns-clause-part : goal.returns-clause-part
@@ -26,13 +26,13 @@ returns-clause-part c = λ engine.
     let entries : List RecGroupEntry = groups.entries in
     let counts : List HoldCounts = groups.counts.items in
     let keep : ℕ → Bool = is_reached (made_by entries) (is_root (standings_of counts)) in
-    let marks_again = c.as_slice-2.ensures.value ∙ c.mark.ensures.marks in
+    let marks_again = c.as_slice-4.ensures.value ∙ c.mark.ensures.marks in
     let left : c.remove_unmarked.new.self ≡ kept_entries keep entries = returns-clause-entries c in
     let left_counts : c.remove_unmarked-2.new.items.items ≡ marked_items (marked keep (made_by entries)) counts =
     c.remove_unmarked-2.ensures ∙ (λ i. marked_items (marks_again i) (c.mark.ensures.counts i).items) in
     let made : kept_made keep (made_by entries) ≡ made_by c.remove_unmarked.new.self = sym (made-kept keep entries) ∙ ap made_by (sym left) in
     let standings : kept_standings keep (standings_of counts) ≡ standings_of c.remove_unmarked-2.new.items.items =
-    sym (counts-marked keep (made_by entries) counts c.requires.numbers) ∙ ap standings_of (sym left_counts) in
+    sym (counts-marked keep (made_by entries) counts c.requires.ready.numbers) ∙ ap standings_of (sym left_counts) in
     let given = sym c.mark.ensures.given in
     λ i. record { engine = engine; made = made i; given = given i; standings = standings i }
 

@@ -21,8 +21,12 @@ use Rattle.wt_holds.proofs.removal.sweep_group.Goals as goal
 pub remove_unreached-requires : goal.remove_unreached-requires
 remove_unreached-requires c =
     let groups = c.args.groups.now in
-    ready-counts groups c.set_waits.new.counts c.requires.ready
-    (ap (map (λ (s : GroupHolds). s.number)) c.set_waits.ensures ∙ numbers-change c.args.number no_longer (standings_of groups.counts.items) (λ s. refl))
+    record {
+      ready = ready-counts groups c.set_waits.new.counts c.requires.ready
+          (ap (map (λ (s : GroupHolds). s.number)) c.set_waits.ensures ∙ numbers-change c.args.number no_longer (standings_of groups.counts.items) (λ s. refl));
+      separate = c.requires.separate;
+      free = c.requires.free;
+    }
 
 pub overflow_sub-result : goal.overflow_sub-result
 overflow_sub-result c =
