@@ -5,3 +5,4 @@ pub mod StoppedWaiting
 pub mod Sums
 pub mod WantedLimits
 pub mod HostRegistrations
+pub mod FreeKept

@@ -2,6 +2,7 @@
 //! Equal groups are one group, whoever registers them.
 #![tactic(auto)]
 
+pub use wt_keys::steps;
 pub use wt_model::{handle_kind, host_exception, live, refusal, swept};
 pub use wt_rules::{host_types, place, rules, type_rules};
 

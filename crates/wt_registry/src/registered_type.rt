@@ -1,12 +1,13 @@
 //! Holds of registered types, and the parties that have them.
 
-ghost use Rattle.std.specs.Prelude.{◌≡◌, ◌<◌, ◌≤◌, [], ◌∷◌, map, option_map, IfOk, IfErr, IfSome, IfNone, OnSome, OnOk, OnErr, Ok, Err, None, Some, true};
+ghost use Rattle.std.specs.Prelude.{◌≡◌, ◌<◌, ◌≤◌, [], ◌∷◌, ◌++◌, map, option_map, IfOk, IfErr, IfSome, IfNone, OnSome, OnOk, OnErr, Ok, Err, None, Some, true};
 ghost use Rattle.wt_tree.specs.NumberFunction.{is_number, is_number_function};
 ghost use Rattle.wt_model.specs.Changes.{HoldChanges};
 ghost use Rattle.wt_model.specs.Holds.{IsHeld};
 ghost use Rattle.wt_model.specs.Limits.{passed_limit};
 ghost use Rattle.wt_model.specs.Registration.{carried_out, hold_of, IsRefusal};
 ghost use Rattle.wt_holds.specs.Kept.{AreKept, registry_at};
+ghost use Rattle.wt_keys.specs.Entries.{made_by};
 ghost use Rattle.wt_plan.specs.Planned.{plan_of, PlansHost};
 
 use crate::debt::Debt;
@@ -18,6 +19,7 @@ use std::marker::Model;
 use wt_env::limits::Engine;
 use wt_env::types::{VMSharedTypeIndex, WasmSubType, WasmValType};
 use wt_holds::inner::TypeRegistryInner;
+use wt_indices::free_indices::FreeIndices;
 use wt_model::refusal::{BuildRefusal, Full};
 use wt_plan::host_plan::{plan_exception, plan_host_type};
 use wt_plan::plan::Plan;
@@ -113,6 +115,7 @@ fn commit_host(
     alloc: Global,
     engine: &Engine,
     groups: &mut TypeRegistryInner,
+    free: &mut FreeIndices,
     party: u32,
     plan: Plan,
 ) -> Result<RegisteredType, BuildRefusal>
@@ -128,8 +131,12 @@ fn commit_host(
     ensures refused { IfErr result (λ why. IsRefusal (option_map BuildRefusal.Full (passed_limit (registry_at engine.now groups.old) party (plan_of groups.old.entries plan))) why) }
     ensures err { OnErr result (registry_at engine.now groups.new ≡ registry_at engine.now groups.old) }
     ensures kept { AreKept engine.now groups.new }
+    ensures made { OnOk result (made_by groups.new.entries ≡ made_by (groups.old.entries ++ plan.added)) }
+    ensures settled { OnOk result (free.new ≡ record free.old { taken = [] }) }
+    ensures unsettled { OnErr result (free.new ≡ free.old) }
 {
     let (numbers, map) = check_and_commit(alloc, engine, groups, party, plan)?;
+    free.keep_taken();
     Ok(RegisteredType {
         engine: engine.number(),
         index: map[0],
@@ -182,11 +189,14 @@ impl RegisteredType {
             return Err(why);
         }
         let entries = &registry.groups.entries;
-        let plan = plan_host_type(registry.alloc, entries, registry.groups.given, ty)?;
+        let given = registry.groups.given;
+        registry.free.return_taken();
+        let plan = plan_host_type(registry.alloc, entries, &mut registry.free, given, ty)?;
         commit_host(
             registry.alloc,
             &registry.engine,
             &mut registry.groups,
+            &mut registry.free,
             party.number(),
             plan,
         )
@@ -225,11 +235,14 @@ impl RegisteredType {
             return Err(BuildRefusal::NoGc);
         }
         let entries = &registry.groups.entries;
-        let plan = plan_exception(registry.alloc, entries, registry.groups.given, fields)?;
+        let given = registry.groups.given;
+        registry.free.return_taken();
+        let plan = plan_exception(registry.alloc, entries, &mut registry.free, given, fields)?;
         commit_host(
             registry.alloc,
             &registry.engine,
             &mut registry.groups,
+            &mut registry.free,
             party.number(),
             plan,
         )

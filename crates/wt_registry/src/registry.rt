@@ -6,6 +6,7 @@ use crate::enter::{check_and_commit, fill_trampolines, hold_one};
 use crate::registered_type::PartyNumber;
 use std::alloc::Global;
 use std::marker::Model;
+use std::sync::ledger::Ledger;
 use wt_env::limits::Engine;
 use wt_env::memory::OutOfMemory;
 use wt_env::seq::Seq;
@@ -14,9 +15,11 @@ use wt_env::types::{
 };
 use wt_holds::inner::TypeRegistryInner;
 use wt_holds::removal::{end_hold, release_groups, sweep_group};
+use wt_indices::free_indices::FreeIndices;
 use wt_keys::entries::RecGroupEntries;
 use wt_keys::search::{borrow_from, live_groups, number_at, trampoline_of};
-use wt_keys::subtyping::is_subtype_of;
+use wt_keys::steps::Steps;
+use wt_keys::subtyping::{is_subtype_counted_of, is_subtype_of};
 use wt_model::ever::EverRegistered;
 use wt_model::host_exception::exception_over;
 use wt_model::live::LiveGroup;
@@ -33,22 +36,27 @@ pub struct TypeRegistry {
     pub(crate) alloc: Global,
     pub(crate) engine: Engine,
     pub(crate) groups: TypeRegistryInner,
+    /// The indices that no registered type has, and those that a refused plan took: they are given back before
+    /// the next is made.
+    pub(crate) free: FreeIndices,
 }
 
 impl Model for TypeRegistry {
     ghost use Rattle.wt_model.specs.Registered.{Registry};
     ghost use Rattle.wt_holds.specs.Kept.{registry_at};
     ghost use Rattle.wt_holds.specs.Kept.{AreKept};
+    ghost use Rattle.wt_holds.specs.GivenBack.{HasFree};
+    ghost use Rattle.wt_keys.specs.Entries.{made_by};
 
     ghost Value = { Registry };
 
     ghost view = { λ registry. registry_at registry.engine registry.groups };
 
-    ghost invariant = { λ registry. AreKept registry.engine registry.groups };
+    ghost invariant = { λ registry. AreKept registry.engine registry.groups × HasFree (made_by registry.groups.entries) registry.free };
 }
 
 impl TypeRegistry {
-    ghost use Rattle.std.specs.Prelude.{◌≡◌, ℕ, ◌<◌, ◌≤◌, ◌∷◌, [], ◌↔◌, map, false, None, IsTrue, IsSome, IfOk, IfErr, OnOk, OnErr, Ok, Err, Some, true, is_some, option_map, option_and_then};
+    ghost use Rattle.std.specs.Prelude.{◌≡◌, ℕ, ◌+◌, ◌<◌, ◌≤◌, ◌∷◌, [], ◌↔◌, map, false, None, IsTrue, IsSome, IfOk, IfErr, OnOk, OnErr, Ok, Err, Some, true, is_some, option_map, option_and_then};
     ghost use Rattle.std.specs.Option.{option_copied, option_or};
     ghost use Rattle.wt_rules.specs.HostTypes.{is_host_type as is_host_type_of};
     ghost use Rattle.wt_rules.specs.Rules.{AreCountable, AreModuleTypes};
@@ -87,6 +95,7 @@ impl TypeRegistry {
                     references: 0,
                 },
             },
+            free: FreeIndices::new(alloc),
         }
     }
 
@@ -125,6 +134,26 @@ impl TypeRegistry {
     {
         self.tell_invariant();
         is_subtype_of(self.alloc, &self.groups.entries, sub, sup)
+    }
+
+    /// The same, with a count of the work: a step is one read of a place of a type's list of declared supertypes, and at
+    /// most one is read, however long the lists are.
+    pub fn is_subtype_counted<L: Ledger>(
+        &self,
+        sub: VMSharedTypeIndex,
+        sup: VMSharedTypeIndex,
+        steps: &mut Steps<L>,
+    ) -> bool
+        requires sub { IsSome (locate self.now.made sub) }
+        requires sup { IsSome (locate self.now.made sup) }
+        ensures declared { TellsSteps (closed_tree self.now.made) sub sup result }
+        ensures value { result ≡ is_subtype_index self.now.made sub sup }
+        ensures own { sub ≡ sup → IsTrue result }
+        ensures rises { steps.old ≤ steps.new }
+        ensures cost { steps.new ≤ steps.old + 1 }
+    {
+        self.tell_invariant();
+        is_subtype_counted_of(self.alloc, &self.groups.entries, sub, sup, steps)
     }
 
     /// Whether the index names a registered function type.
@@ -222,7 +251,7 @@ impl TypeRegistry {
         let number = debt.number();
         debt.forget();
         let _bounded = self.engine.limits();
-        sweep_group(&mut self.groups, number)
+        sweep_group(&mut self.groups, &mut self.free, number)
     }
 
     /// Registers the recursion groups of a module for a party, and gives the party one hold of each group for
@@ -254,10 +283,17 @@ impl TypeRegistry {
         ensures sound { IsSound self.new }
     {
         self.tell_invariant();
+        self.free.return_taken();
         let mut plan = Plan::new(self.alloc, self.groups.given);
         let entries = &self.groups.entries;
         let groups = types.groups.as_slice();
-        if let Some((place, rule)) = plan_groups(self.alloc, entries, &mut plan, groups)? {
+        if let Some((place, rule)) = plan_groups(
+            self.alloc,
+            entries,
+            &mut self.free,
+            &mut plan,
+            groups,
+        )? {
             return Err(BuildRefusal::InvalidModule { place, rule });
         }
         if !self.engine.gc() && !are_functions(types) {
@@ -271,6 +307,7 @@ impl TypeRegistry {
             party.number(),
             plan,
         )?;
+        self.free.keep_taken();
         let entries = &self.groups.entries;
         fill_trampolines(entries, map.as_slice(), &mut trampolines);
         Ok(TypeCollection::new(
@@ -295,6 +332,7 @@ impl TypeRegistry {
         release_groups(
             &self.engine,
             &mut self.groups,
+            &mut self.free,
             party.number(),
             collection.numbers(),
         );

@@ -17,6 +17,7 @@ use wt_tree::supers::Types;
 
 mod hosts;
 mod rules;
+mod supertypes;
 
 /// The final type of this shape, below none.
 fn final_type(composite_type: WasmCompositeInnerType) -> WasmSubType {

@@ -37,3 +37,6 @@ returns-clause-held c =
           ∙ ap (option_map (λ at. at.0)) plans.plans.located
           ∙ ap Some (sym number);
     }
+
+pub returns-clause-made : goal.returns-clause-made
+returns-clause-made c = sym (map-append made_of c.args.groups.now.entries c.args.plan.added ∙ ap (λ (r : Registry). r.made) c.in_ok-numbers.ensures.ok)

@@ -17,10 +17,10 @@ pub returns-in-Some-clause-refused : goal.returns-in-Some-clause-refused
 returns-in-Some-clause-refused c = refused-before c.args.registry.now c.args.party.now (host_type c.args.ty) c.in-Some.why (sym c.in-Some.is ∙ c.host_refusal.ensures)
 
 pub returns-in-Some-clause-sound : goal.returns-in-Some-clause-sound
-returns-in-Some-clause-sound c = subst IsSound c.registry.view_is (sound c.registry.inside.engine c.registry.inside.groups c.registry.invariant)
+returns-in-Some-clause-sound c = subst IsSound c.registry.view_is (sound c.registry.inside.engine c.registry.inside.groups c.registry.invariant.0)
 
 pub returns-in_err-plan-clause-sound : goal.returns-in_err-plan-clause-sound
-returns-in_err-plan-clause-sound c = subst IsSound c.registry.view_is (sound c.registry.inside.engine c.registry.inside.groups c.registry.invariant)
+returns-in_err-plan-clause-sound c = sound c.registry.inside.engine c.registry.inside.groups c.registry.invariant.0
 
 pub plan_host_type-requires-clause-host : goal.plan_host_type-requires-clause-host
 plan_host_type-requires-clause-host c =

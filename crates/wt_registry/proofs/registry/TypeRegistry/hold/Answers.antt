@@ -5,25 +5,29 @@ use Rattle.wt_model.specs.Registered.{Registry}
 use Rattle.wt_keys.proofs.AddedKeys.{names_older}
 use Rattle.wt_holds.proofs.HoldKept.{hold-keeps}
 use Rattle.wt_registry.proofs.Soundness.{sound}
+use Rattle.wt_holds.specs.Kept.{AreKept}
 use Rattle.wt_registry.proofs.registry.TypeRegistry.hold.Goals as goal
 
-pub invariant_of-self : goal.invariant_of-self
-invariant_of-self c =
+kept : (c : goal.After-hold_one) → AreKept c.self.inside.engine (record c.self.inside.groups { counts = c.hold_one.new.counts })
+kept c =
     let groups = c.self.inside.groups in
-    let kept = c.self.invariant in
+    let before = c.self.invariant.0 in
     record {
-      keys = kept.keys;
-      shown = kept.shown;
-      rules = kept.rules;
-      within = kept.within;
-      marks = kept.marks;
-      below = kept.below;
+      keys = before.keys;
+      shown = before.shown;
+      rules = before.rules;
+      within = before.within;
+      marks = before.marks;
+      below = before.below;
       holds =
           hold-keeps c.hold_one.result c.self.inside.engine groups.given.numbers (made_by groups.entries) groups.counts.items c.hold_one.new.counts.items c.args.party c.args.number
-          kept.keys.rising (names_older groups.entries groups.given.numbers kept.keys) kept.holds
+          before.keys.rising (names_older groups.entries groups.given.numbers before.keys) before.holds
           (subst (λ (registry : Registry). c.args.party < registry.engine.limits.parties) (sym c.self.view_is) c.requires)
           c.hold_one.ensures.allowed c.hold_one.ensures.err;
     }
 
+pub invariant_of-self : goal.invariant_of-self
+invariant_of-self c = (kept c, c.self.invariant.1)
+
 pub returns-clause-sound : goal.returns-clause-sound
-returns-clause-sound c = sound c.self.inside.engine (record c.self.inside.groups { counts = c.hold_one.new.counts }) (invariant_of-self c)
+returns-clause-sound c = sound c.self.inside.engine (record c.self.inside.groups { counts = c.hold_one.new.counts }) (kept c)

@@ -18,6 +18,6 @@ returns-clause-function c =
     let i = c.args.index in
     let same : c.is_some.result ≡ is_some (trampoline_index (made_by groups.entries) i) =
     returns-clause-trampoline c ∙ ap (λ (r : Registry). is_some (trampoline_index r.made i)) (sym c.self.view_is) in (
-      λ found. subst (λ (r : Registry). IsFunctionIndex r.made i) c.self.view_is (trampoline-function groups.entries groups.given.numbers c.self.invariant.keys i (sym same ∙ found)),
-      λ named. same ∙ function-trampoline groups.entries groups.given.numbers c.self.invariant.keys i (subst (λ (r : Registry). IsFunctionIndex r.made i) (sym c.self.view_is) named),
+      λ found. subst (λ (r : Registry). IsFunctionIndex r.made i) c.self.view_is (trampoline-function groups.entries groups.given.numbers c.self.invariant.0.keys i (sym same ∙ found)),
+      λ named. same ∙ function-trampoline groups.entries groups.given.numbers c.self.invariant.0.keys i (subst (λ (r : Registry). IsFunctionIndex r.made i) (sym c.self.view_is) named),
     )

@@ -1,4 +1,4 @@
--- the walk over the entries tells of the registry's closed trees
+-- what the entries tell is told of the registry's closed trees
 use Rattle.std.proofs.Common.{◌≡◌, sym, ap, ◌∙◌}
 use Rattle.wt_env.specs.declared.types.VMSharedTypeIndex.{VMSharedTypeIndex}
 use Rattle.wt_env.specs.declared.types.EngineOrModuleTypeIndex.TheVariants as index
@@ -9,9 +9,6 @@ use Rattle.wt_model.specs.Indices.{closed_tree}
 use Rattle.wt_model.specs.Subtyping.{is_subtype_index}
 use Rattle.wt_model.proofs.subtyping.TypeMaps.{sound-steps}
 use Rattle.wt_registry.proofs.registry.TypeRegistry.is_subtype.Goals as goal
-
-pub is_subtype_of-requires-clause-shown : goal.is_subtype_of-requires-clause-shown
-is_subtype_of-requires-clause-shown c = c.self.invariant.shown
 
 pub returns-clause-steps : goal.returns-clause-steps
 returns-clause-steps c =

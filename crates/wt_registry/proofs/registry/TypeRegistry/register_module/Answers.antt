@@ -1,14 +1,17 @@
 -- the plan of a module's groups, carried out
-use Rattle.std.proofs.Common.{◌++◌, length, ap, arith}
+use Rattle.std.proofs.Common.{◌++◌, length, ap, sym, ◌∙◌, arith}
+use Rattle.std.proofs.lemmas.List.{map-append}
+use Rattle.wt_model.specs.Registered.{Registry}
 use Rattle.wt_rules.specs.Rules.{total_members}
 use Rattle.wt_model.specs.Indices.{closed_tree}
-use Rattle.wt_keys.specs.Entries.{made_by}
+use Rattle.wt_keys.specs.Entries.{made_of, made_by}
 use Rattle.wt_registry.proofs.CountedTypes.{length-typed}
+use Rattle.wt_registry.proofs.FreeKept.{kept-free}
 use Rattle.wt_registry.proofs.Soundness.{sound}
 use Rattle.wt_registry.proofs.registry.TypeRegistry.register_module.Goals as goal
 
 pub plan_groups-requires-clause-shown : goal.plan_groups-requires-clause-shown
-plan_groups-requires-clause-shown c = c.self.invariant.shown
+plan_groups-requires-clause-shown c = c.self.invariant.0.shown
 
 pub check_and_commit-requires-clause-shown : goal.check_and_commit-requires-clause-shown
 check_and_commit-requires-clause-shown c = (c.in_ok-place.ensures.planned c.in_default.is).shown
@@ -32,3 +35,10 @@ new-requires c =
     let same = ap total_members c.as_slice-groups.ensures in
     let long = ap length c.in_ok-numbers.ensures.map in
     omega (arith, typed, same, long, c.requires.countable.few_members)
+
+pub invariant_of-self-2 : goal.invariant_of-self-2
+invariant_of-self-2 c = (
+  c.check_and_commit.ensures.kept,
+  kept-free c.self.inside.groups.entries c.plan_groups.new.plan.added (made_by c.check_and_commit.new.groups.entries) c.plan_groups.new.free c.keep_taken.new.self c.in_ok-place.ensures.free
+      (sym (map-append made_of c.self.inside.groups.entries c.plan_groups.new.plan.added ∙ ap (λ (r : Registry). r.made) c.in_ok-numbers.ensures.ok)) c.keep_taken.ensures,
+)

@@ -17,7 +17,7 @@ pub returns-clause-changes : goal.returns-clause-changes
 returns-clause-changes c =
     let old = c.args.self.now in
     let party = c.args.party.now in
-    let before : IsSound old = subst IsSound c.self.view_is (sound c.self.inside.engine c.self.inside.groups c.self.invariant) in
+    let before : IsSound old = subst IsSound c.self.view_is (sound c.self.inside.engine c.self.inside.groups c.self.invariant.0) in
     let numbers = c.args.collection.numbers in
     let owner = c.requires.owner in
     let within : party < old.engine.limits.parties = omega (arith, owner, c.requires.held.party) in

@@ -10,9 +10,9 @@ use Rattle.wt_registry.proofs.Soundness.{sound}
 use Rattle.wt_registry.proofs.registry.TypeRegistry.tell_invariant.Goals as goal
 
 pub returns-clause-sound : goal.returns-clause-sound
-returns-clause-sound c = subst IsSound c.self.view_is (sound c.self.inside.engine c.self.inside.groups c.self.invariant)
+returns-clause-sound c = subst IsSound c.self.view_is (sound c.self.inside.engine c.self.inside.groups c.self.invariant.0)
 
 pub returns-clause-fit : goal.returns-clause-fit
 returns-clause-fit c =
     subst (λ (registry : Registry). StepsFit (closed_tree registry.made)) c.self.view_is
-    (rules-fit (made_by c.self.inside.groups.entries) c.self.invariant.rules)
+    (rules-fit (made_by c.self.inside.groups.entries) c.self.invariant.0.rules)

@@ -17,7 +17,7 @@ unreachable-requires c =
     let i = c.args.index in
     let none : trampoline_index (made_by groups.entries) i ≡ None = sym c.trampoline_of.ensures ∙ c.in-None.is in
     let named = subst (λ (r : Registry). IsFunctionIndex r.made i) (sym c.self.view_is) c.requires.function in
-    false≢true (sym (ap is_some none) ∙ function-trampoline groups.entries groups.given.numbers c.self.invariant.keys i named)
+    false≢true (sym (ap is_some none) ∙ function-trampoline groups.entries groups.given.numbers c.self.invariant.0.keys i named)
 
 pub returns-clause-trees : goal.returns-clause-trees
 returns-clause-trees c =
@@ -26,7 +26,7 @@ returns-clause-trees c =
     let j = c.in-Some.trampoline in
     let value : trampoline_index (made_by groups.entries) i ≡ Some j = sym c.trampoline_of.ensures ∙ c.in-Some.is in
     subst (λ (r : Registry). closed_tree r.made j ≡ option_and_then trampoline (closed_tree r.made i)) c.self.view_is
-    (trampoline-closed groups.entries groups.given.numbers c.self.invariant.keys i j value)
+    (trampoline-closed groups.entries groups.given.numbers c.self.invariant.0.keys i j value)
 
 pub returns-clause-own : goal.returns-clause-own
 returns-clause-own c =
@@ -35,4 +35,4 @@ returns-clause-own c =
     let j = c.in-Some.trampoline in
     let value : trampoline_index (made_by groups.entries) i ≡ Some j = sym c.trampoline_of.ensures ∙ c.in-Some.is in
     subst (λ (r : Registry). trampoline_index r.made j ≡ Some j) c.self.view_is
-    (trampoline-own groups.entries groups.given.numbers c.self.invariant.keys i j value)
+    (trampoline-own groups.entries groups.given.numbers c.self.invariant.0.keys i j value)
