@@ -1,6 +1,6 @@
 -- A hold that is left keeps its type, while other holds end.
-use Rattle.std.proofs.Common.{◌≡◌, ◌≢◌, ℕ, ◌<◌, ◌≤◌, ◌==◌, true, List, [], ◌∷◌, length, map, slice_get, Option, Some, None, IsSome, option_map, Result, Ok, Err, refl, sym, ap, subst, ◌∙◌, arith}
-use Rattle.std.proofs.lemmas.Bool.{cond-true}
+use Rattle.std.proofs.Common.{◌≡◌, ◌≢◌, ℕ, ◌<◌, ◌≤◌, ◌==◌, true, List, [], ◌∷◌, length, map, slice_get, Option, Some, None, IsSome, option_map, Result, Ok, Err, refl, sym, ap, subst, ◌∙◌, arith, Bool, false, eqb-true}
+use Rattle.std.proofs.lemmas.Bool.{cond-true, eqb-false}
 use Rattle.wt_env.proofs.lists.Members.{get_among}
 use Rattle.wt_env.specs.declared.types.VMSharedTypeIndex.{VMSharedTypeIndex}
 use Rattle.wt_tree.specs.Tree.{ClosedTree}
@@ -80,3 +80,32 @@ still_held start rooted mid end hold types taker giver other numbers owner own s
     let end_left : 1 ≤ held_at end.standings taker n = subst (λ (count : ℕ). 1 ≤ count) (sym others) left in
     after_release mid end hold other numbers second (subst (λ (p : ℕ). 1 ≤ held_at end.standings p n) (sym owner) end_left)
     (after_release rooted mid hold giver types.numbers first (subst (λ (p : ℕ). 1 ≤ held_at mid.standings p n) (sym owner) left) held)
+
+-- ---- a module's holds, while others begin and end
+
+engine_less : (party : ℕ) (old new : Registry) → new.engine ≡ old.engine → party < old.engine.limits.parties → party < new.engine.limits.parties
+engine_less party old new same within = subst (λ engine. party < engine.limits.parties) (sym same) within
+
+-- more holds leave them
+pub holding-more : (old new : Registry) (party : ℕ) (numbers : List ℕ) (types : Collection) → HoldChanges old new party numbers → IsHolding old types → IsHolding new types
+holding-more old new party numbers types changes holding = record {
+  engine = ap (λ engine. engine.number) changes.engine ∙ holding.engine;
+  party = engine_less types.party old new changes.engine holding.party;
+  held = λ n. by n (types.party == party) refl;
+}
+  where
+    by : (n : ℕ) (b : Bool) → (types.party == party) ≡ b → times n types.numbers ≤ held_at new.standings types.party n
+    by n true at =
+        let same = eqb-true types.party party at in
+        let before = subst (λ p. times n types.numbers ≤ held_at old.standings p n) same (holding.held n) in
+        let more = changes.more n in
+        subst (λ p. times n types.numbers ≤ held_at new.standings p n) (sym same) (omega (arith, before, more))
+    by n false at = subst (λ count. times n types.numbers ≤ count) (sym (changes.others types.party n (eqb-false types.party party at))) (holding.held n)
+
+-- and so does the end of another party's
+pub holding-released : (old new : Registry) (party : ℕ) (numbers : List ℕ) (types : Collection) → types.party ≢ party → ReleaseChanges old new party numbers → IsHolding old types → IsHolding new types
+holding-released old new party numbers types other changes holding = record {
+  engine = ap (λ engine. engine.number) changes.engine ∙ holding.engine;
+  party = engine_less types.party old new changes.engine holding.party;
+  held = λ n. subst (λ count. times n types.numbers ≤ count) (sym (changes.others types.party n other)) (holding.held n);
+}

@@ -11,7 +11,7 @@ use Rattle.wt_registry.specs.Changes.{HoldChanges, DropChanges, ReleaseChanges}
 use Rattle.wt_registry.specs.Indices.{number_of}
 use Rattle.wt_embedding.proofs.OneIndex.{same_indices, as_many}
 use Rattle.wt_embedding.proofs.NothingHeld.{owed}
-use Rattle.wt_embedding.proofs.StillHeld.{first_there, root_found, located, still_held}
+use Rattle.wt_embedding.proofs.StillHeld.{first_there, root_found, located, still_held, holding-more, holding-released}
 use Rattle.wt_embedding.proofs.share.Goals as goal
 use Rattle.wt_embedding.proofs.share.Goals.{in-Some, in-None}
 
@@ -37,6 +37,22 @@ unreachable-requires c =
     let told = c.in-Ok-None.ensures.ok ∙ ap (λ (found : Option Hold). Ok (found, after)) c.in-Ok-None.field-0-is in
     root_found c.register_module-2.new.self c.register_module-2.new.party 0 c.in-Ok.right.map (module_trees [] c.in_ok-types.types.groups) c.unwrap-right_index.result after
     c.in-Ok.ensures.named (sym c.shared_type-2.ensures ∙ c.unwrap-right_index.ensures) told
+
+pub release-requires-clause-held : goal.release-requires-clause-held
+release-requires-clause-held c =
+    let hold = c.in-Ok-Some.hold in
+    holding-more c.register_module-2.new.self c.try_root.new.registry c.register_module-2.new.party (hold.number ∷ []) c.in-Ok.right
+    (c.in-Ok-Some.ensures.changes hold c.in-Ok-Some.field-0-is) c.in-Ok.ensures.holding
+
+pub release-requires-2-clause-held : goal.release-requires-2-clause-held
+release-requires-2-clause-held c =
+    let hold = c.in-Ok-Some.hold in
+    let left = c.in_ok-left.left in
+    let both = holding-more c.register_module.new.self c.register_module-2.new.self c.new-second.result c.in-Ok.right.numbers left c.in-Ok.ensures.changes c.in_ok-left.ensures.holding in
+    let rooted = holding-more c.register_module-2.new.self c.try_root.new.registry c.register_module-2.new.party (hold.number ∷ []) left (c.in-Ok-Some.ensures.changes hold c.in-Ok-Some.field-0-is) both in
+    let other : left.party ≢ c.try_root.new.party = λ same.
+    absurd (omega (arith, same, c.in_ok-left.ensures.owner, c.try_root.ensures.party, c.new-first.ensures, c.register_module-2.ensures.party, c.new-second.ensures)) in
+    holding-released c.try_root.new.registry c.release.new.self c.try_root.new.party c.in-Ok.right.numbers left other c.release.ensures.changes rooted
 
 pub decref-requires-clause-held : goal.decref-requires-clause-held
 decref-requires-clause-held c =
