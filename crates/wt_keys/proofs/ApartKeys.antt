@@ -15,7 +15,7 @@ use Rattle.wt_keys.proofs.AddedKeys.{keys-push}
 use Rattle.wt_keys.proofs.KeyTrees.{tree-of_key}
 use Rattle.wt_keys.proofs.Stored.{apart-behind}
 
-numbers-rise : (low top : ℕ) (entries : List RecGroupEntry) → IsRising low (made_by entries) top → NumbersRise low entries
+pub numbers-rise : (low top : ℕ) (entries : List RecGroupEntry) → IsRising low (made_by entries) top → NumbersRise low entries
 numbers-rise low top [] rises = tt
 numbers-rise low top (e ∷ es) rises = (rises.0, numbers-rise e.number top es rises.1)
 

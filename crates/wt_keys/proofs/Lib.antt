@@ -22,3 +22,4 @@ pub mod KeyedGroups
 pub mod NewSupertypes
 pub mod ToldLists
 pub mod ListedSubtypes
+pub mod Removed

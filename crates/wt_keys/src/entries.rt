@@ -1,8 +1,8 @@
 //! The registered groups as one list, from the oldest on, that is searched by key, by type index and by registration
 //! number. Contracts see the list alone.
 
-ghost use Rattle.std.specs.Prelude.{◌≡◌, [], ◌∷◌, ◌++◌, ◌==◌, ◌≤◌, length, drop, slice_get, option_and_then, OnOk, OnErr, is_some};
-ghost use Rattle.std.specs.List.{find};
+ghost use Rattle.std.specs.Prelude.{◌≡◌, [], ◌∷◌, ◌++◌, ◌==◌, ◌<◌, ◌≤◌, length, not, drop, slice_get, option_and_then, IfSome, OnOk, OnErr, is_some};
+ghost use Rattle.std.specs.List.{find, filter};
 ghost use Rattle.std.specs.Option.{option_copied};
 ghost use Rattle.wt_env.specs.Equality.{rec_group_eq};
 ghost use Rattle.wt_model.specs.Indices.{place_in, used, is_used as is_used_number};
@@ -11,7 +11,7 @@ ghost use Rattle.wt_keys.specs.Filed.{NumbersRise, AreApart, passing};
 ghost use Rattle.wt_keys.specs.Marks.{marked_items};
 
 use crate::entry::RecGroupEntry;
-use crate::files::{GroupFiles, file, file_each, unfile_unmarked};
+use crate::files::{GroupFiles, file, file_each, unfile, unfile_unmarked};
 use crate::marking::remove_unmarked;
 use crate::search::place_of;
 use std::alloc::Global;
@@ -30,7 +30,8 @@ fn has_index(entry: &RecGroupEntry, index: VMSharedTypeIndex) -> bool
 /// Where the entry with this number stands.
 fn place_of_number(entries: &[RecGroupEntry], number: u64) -> Option<usize>
     requires { NumbersRise 0 entries.now }
-    ensures { option_and_then (slice_get entries.now) result ≡ find (λ entry. entry.number == number) entries.now }
+    ensures found { option_and_then (slice_get entries.now) result ≡ find (λ entry. entry.number == number) entries.now }
+    ensures within { IfSome result (λ place. place < length entries.now) }
 {
     match entries.binary_search_by_key(&number, |entry| entry.number) {
         Ok(place) => Some(place),
@@ -195,6 +196,20 @@ impl RecGroupEntries {
         ensures { result ≡ is_used_number (used (made_by self.now)) candidate }
     {
         self.find_index(VMSharedTypeIndex::new(candidate)).is_some()
+    }
+
+    /// Takes the group with this registration number away, if it is registered. It takes no memory.
+    pub fn remove(&mut self, number: u64) -> Option<RecGroupEntry>
+        ensures removed { result ≡ find (λ entry. entry.number == number) self.old }
+        ensures left { self.new ≡ filter (λ entry. not (entry.number == number)) self.old }
+    {
+        match place_of_number(self.entries.as_slice(), number) {
+            Some(place) => {
+                unfile(&mut self.files, &self.entries[place]);
+                Some(self.entries.remove(place))
+            }
+            None => None,
+        }
     }
 
     /// Takes away the groups that aren't marked. It takes no memory.
