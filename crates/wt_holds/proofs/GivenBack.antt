@@ -1,20 +1,20 @@
 -- The indices of groups that are removed are free again, and those of all others are not.
-use Rattle.std.proofs.Common.{◌≡◌, ℕ, zero, suc, ◌+◌, ◌<◌, ◌==◌, Bool, true, false, not, cond, ◌||◌, List, [], ◌∷◌, length, map, take, get_or, slice_get, Some, inl, inr, refl, ap, sym, ◌∙◌, arith, eqb-true}
+use Rattle.std.proofs.Common.{filter, ◌≤◌, subst, cond, ◌≡◌, ℕ, zero, suc, ◌+◌, ◌<◌, ◌==◌, Bool, true, false, not, ◌||◌, List, [], ◌∷◌, length, map, take, get_or, slice_get, Some, inl, inr, refl, ap, sym, ◌∙◌, arith, eqb-true}
 use Rattle.std.proofs.lemmas.Bool.{false≢true}
+use Rattle.std.specs.List.{find}
 use Rattle.wt_env.specs.Among.{Among}
 use Rattle.wt_env.specs.declared.types.VMSharedTypeIndex.{VMSharedTypeIndex}
 use Rattle.wt_env.proofs.lists.Mapped.{among_mapped}
-use Rattle.wt_env.proofs.lists.Members.{some_same}
+use Rattle.wt_env.proofs.lists.Members.{find-found, some_same}
 use Rattle.wt_model.specs.Indices.{used, is_used}
 use Rattle.wt_indices.proofs.Occurrences.{used-append}
 use Rattle.wt_keys.specs.declared.entry.RecGroupEntry.{RecGroupEntry}
 use Rattle.wt_keys.specs.Entries.{made_of, made_by}
 use Rattle.wt_keys.specs.Keys.{AreKeys}
 use Rattle.wt_keys.specs.Filed.{NumbersRise, AreApart}
-use Rattle.wt_keys.specs.Marks.{marked_items}
 use Rattle.wt_keys.proofs.ApartKeys.{keys-apart}
 use Rattle.wt_keys.proofs.Numbered.{rise-above}
-use Rattle.wt_holds.specs.GivenBack.{AreDifferent, AreSeparate, used_unless}
+use Rattle.wt_holds.specs.GivenBack.{AreDifferent, AreSeparate}
 
 abbrev bits_of : List VMSharedTypeIndex → List ℕ
 bits_of indices = map (λ (i : VMSharedTypeIndex). i.0) indices
@@ -55,102 +55,115 @@ used-next (x ∷ xs) (suc n) k d below =
     swap false true c = refl
     swap false false c = refl
 
--- ---- the groups that aren't marked
-
-abbrev pub used_dropped : List Bool → List RecGroupEntry → ℕ → Bool
-used_dropped [] entries k = false
-used_dropped (mark ∷ marks) [] k = false
-used_dropped (mark ∷ marks) (entry ∷ entries) k = used_unless mark entry k || used_dropped marks entries k
-
-pub dropped-next : (marks : List Bool) (entries : List RecGroupEntry) (n k : ℕ) (m : Bool) (d : RecGroupEntry) → n < length marks → n < length entries
-    → used_dropped (take (suc n) marks) (take (suc n) entries) k ≡ (used_unless (get_or marks n m) (get_or entries n d) k || used_dropped (take n marks) (take n entries) k)
-dropped-next [] entries n k m d below within = absurd (omega (arith, below))
-dropped-next (mark ∷ marks) [] n k m d below within = absurd (omega (arith, within))
-dropped-next (mark ∷ marks) (e ∷ es) zero k m d below within = refl
-dropped-next (mark ∷ marks) (e ∷ es) (suc n) k m d below within =
-    ap (λ b. used_unless mark e k || b) (dropped-next marks es n k m d (omega (arith, below)) (omega (arith, within)))
-    ∙ swap (used_unless mark e k) (used_unless (get_or marks n m) (get_or es n d) k) (used_dropped (take n marks) (take n es) k)
-  where
-    swap : (a b c : Bool) → (a || (b || c)) ≡ (b || (a || c))
-    swap true true c = refl
-    swap true false c = refl
-    swap false true c = refl
-    swap false false c = refl
-
-used-at : (entries : List RecGroupEntry) (n k : ℕ) (d : RecGroupEntry) → n < length entries → is_used (bits_of (get_or entries n d).shared_type_indices) k ≡ true → is_used (used (made_by entries)) k ≡ true
-used-at [] n k d below there = absurd (omega (arith, below))
-used-at (e ∷ es) zero k d below there = used-append k (bits_of e.shared_type_indices) (used (made_by es)) ∙ ap (λ b. b || is_used (used (made_by es)) k) there
-used-at (e ∷ es) (suc n) k d below there = used-append k (bits_of e.shared_type_indices) (used (made_by es)) ∙ or_right (is_used (bits_of e.shared_type_indices) k) (is_used (used (made_by es)) k) (used-at es n k d (omega (arith, below)) there)
-  where
-    or_right : (a b : Bool) → b ≡ true → (a || b) ≡ true
-    or_right true b h = refl
-    or_right false b h = h
-
-unless_false : (mark b : Bool) → b ≡ false → cond mark false b ≡ false
-unless_false true b h = refl
-unless_false false b h = h
-
 never : (b : Bool) (P : Type 0) → (b ≡ true → ⊥) → b ≡ false
 never true P h = absurd (h refl)
 never false P h = refl
 
--- no group before it has the index
-pub separate-before : (marks : List Bool) (entries : List RecGroupEntry) (n k : ℕ) (d : RecGroupEntry) → AreSeparate entries → n < length entries
-    → is_used (bits_of (get_or entries n d).shared_type_indices) k ≡ true → used_dropped (take n marks) (take n entries) k ≡ false
-separate-before marks [] n k d separate below there = absurd (omega (arith, below))
-separate-before marks (e ∷ es) zero k d separate below there = none marks
-  where
-    none : (marks : List Bool) → used_dropped (take 0 marks) [] k ≡ false
-    none [] = refl
-    none (m ∷ ms) = refl
-separate-before [] (e ∷ es) (suc n) k d separate below there = refl
-separate-before (mark ∷ marks) (e ∷ es) (suc n) k d separate below there =
-    ap (λ b. b || used_dropped (take n marks) (take n es) k) (unless_false mark (is_used (bits_of e.shared_type_indices) k) own)
-    ∙ separate-before marks es n k d separate.2 (omega (arith, below)) there
-  where
-    own : is_used (bits_of e.shared_type_indices) k ≡ false
-    own = never (is_used (bits_of e.shared_type_indices) k) (Unit {0}) (λ here. false≢true (sym (separate.1 k here) ∙ used-at es n k d (omega (arith, below)) there))
+-- ---- a group that is removed
 
--- ---- all of them
+abbrev others : ℕ → List RecGroupEntry → List RecGroupEntry
+others number entries = filter (λ (e : RecGroupEntry). not (e.number == number)) entries
 
-dropped_bool : (m ue ur dr kr : Bool) → (ue ≡ true → ur ≡ false) → (ur ≡ false → dr ≡ false) → (dr || not ur) ≡ not kr
-    → ((cond m false ue || dr) || not (ue || ur)) ≡ not (cond m (ue || kr) kr)
-dropped_bool true true ur dr kr apart within h = ap (λ b. b || false) (within (apart refl))
-dropped_bool true false ur dr kr apart within h = h
-dropped_bool false true ur dr kr apart within h = sym (or_true dr) ∙ ap (λ b. dr || not b) (sym (apart refl)) ∙ h
-  where
-    or_true : (b : Bool) → (b || true) ≡ true
-    or_true true = refl
-    or_true false = refl
-dropped_bool false false ur dr kr apart within h = h
+or_right : (a b : Bool) → b ≡ true → (a || b) ≡ true
+or_right true b h = refl
+or_right false b h = h
 
-dropped-within : (marks : List Bool) (entries : List RecGroupEntry) (k : ℕ) → is_used (used (made_by entries)) k ≡ false → used_dropped marks entries k ≡ false
-dropped-within [] entries k none = refl
-dropped-within (mark ∷ marks) [] k none = refl
-dropped-within (mark ∷ marks) (e ∷ es) k none =
-    let parts = sym (used-append k (bits_of e.shared_type_indices) (used (made_by es))) ∙ none in
-    ap (λ b. b || used_dropped marks es k) (unless_false mark (is_used (bits_of e.shared_type_indices) k) (first_bool (is_used (bits_of e.shared_type_indices) k) (is_used (used (made_by es)) k) parts))
-    ∙ dropped-within marks es k (rest_bool (is_used (bits_of e.shared_type_indices) k) (is_used (used (made_by es)) k) parts)
+among-used-in : (k : ℕ) (e : RecGroupEntry) (entries : List RecGroupEntry) → Among e entries → is_used (bits_of e.shared_type_indices) k ≡ true → is_used (used (made_by entries)) k ≡ true
+among-used-in k e [] at there = absurd at
+among-used-in k e (x ∷ xs) (inl same) there =
+    used-append k (bits_of x.shared_type_indices) (used (made_by xs)) ∙ ap (λ b. b || is_used (used (made_by xs)) k) (ap (λ (y : RecGroupEntry). is_used (bits_of y.shared_type_indices) k) (sym same) ∙ there)
+among-used-in k e (x ∷ xs) (inr later) there =
+    used-append k (bits_of x.shared_type_indices) (used (made_by xs)) ∙ or_right (is_used (bits_of x.shared_type_indices) k) (is_used (used (made_by xs)) k) (among-used-in k e xs later there)
+
+-- where numbers are above this one, none is taken out
+all-others : (low number : ℕ) (entries : List RecGroupEntry) → NumbersRise low entries → number ≤ low → others number entries ≡ entries
+all-others low number [] rises within = refl
+all-others low number (x ∷ xs) rises within =
+    ap (λ b. cond (not b) (x ∷ others number xs) (others number xs)) (apart x.number number (omega (arith, within, rises.0)))
+    ∙ ap (λ es. x ∷ es) (all-others x.number number xs rises.1 (omega (arith, within, rises.0)))
   where
+    apart : (a b : ℕ) → b < a → (a == b) ≡ false
+    apart a b less = grind (arith, less)
+
+removed_bool : (ux ue us uf : Bool) → (ux ≡ true → us ≡ false) → (ue ≡ true → us ≡ true) → (ue || not us) ≡ not uf → (ue || not (ux || us)) ≡ not (ux || uf)
+removed_bool true true us uf apart within h = absurd (false≢true (sym (apart refl) ∙ within refl))
+removed_bool true false us uf apart within h = refl
+removed_bool false ue us uf apart within h = h
+
+gone_bool : (ux us : Bool) → (ux ≡ true → us ≡ false) → (ux || not (ux || us)) ≡ not us
+gone_bool true us apart = ap not (sym (apart refl))
+gone_bool false us apart = refl
+
+-- what is free beside the others is what was free, and the indices of the group that is removed
+pub free-removed : (low number k : ℕ) (entries : List RecGroupEntry) (e : RecGroupEntry) → NumbersRise low entries → AreSeparate entries → Among e entries → e.number ≡ number
+    → (is_used (bits_of e.shared_type_indices) k || not (is_used (used (made_by entries)) k)) ≡ not (is_used (used (made_by (others number entries))) k)
+free-removed low number k [] e rises separate at is = absurd at
+free-removed low number k (x ∷ xs) e rises separate (inl same) is =
+    ap (λ b. is_used (bits_of e.shared_type_indices) k || not b) (used-append k (bits_of x.shared_type_indices) (used (made_by xs)))
+    ∙ ap (λ (y : RecGroupEntry). is_used (bits_of e.shared_type_indices) k || not (is_used (bits_of y.shared_type_indices) k || is_used (used (made_by xs)) k)) (sym same)
+    ∙ gone_bool (is_used (bits_of e.shared_type_indices) k) (is_used (used (made_by xs)) k) (λ there. separate.1 k (ap (λ (y : RecGroupEntry). is_used (bits_of y.shared_type_indices) k) (sym same) ∙ there))
+    ∙ ap (λ es. not (is_used (used (made_by es)) k)) (sym (ap (λ b. cond (not b) (x ∷ others number xs) (others number xs)) here ∙ all-others x.number number xs rises.1 (omega (arith, own))))
+  where
+    own : x.number ≡ number
+    own = ap (λ (y : RecGroupEntry). y.number) (sym same) ∙ is
+
+    here : (x.number == number) ≡ true
+    here = same_numbers x.number number own
+      where
+        same_numbers : (a b : ℕ) → a ≡ b → (a == b) ≡ true
+        same_numbers a b h = grind (arith, h)
+free-removed low number k (x ∷ xs) e rises separate (inr later) is =
+    ap (λ b. is_used (bits_of e.shared_type_indices) k || not b) (used-append k (bits_of x.shared_type_indices) (used (made_by xs)))
+    ∙ removed_bool (is_used (bits_of x.shared_type_indices) k) (is_used (bits_of e.shared_type_indices) k) (is_used (used (made_by xs)) k) (is_used (used (made_by (others number xs))) k)
+    (separate.1 k) (among-used-in k e xs later) (free-removed x.number number k xs e rises.1 separate.2 later is)
+    ∙ ap not (sym (ap (λ b. is_used (used (made_by (cond (not b) (x ∷ others number xs) (others number xs)))) k) (apart x.number e.number number is (rise-above x.number xs e rises.1 later))
+    ∙ used-append k (bits_of x.shared_type_indices) (used (made_by (others number xs)))))
+  where
+    apart : (a b n : ℕ) → b ≡ n → a < b → (a == n) ≡ false
+    apart a b n same less = grind (arith, same, less)
+
+-- what is left uses no more
+fewer-used : (number k : ℕ) (entries : List RecGroupEntry) → is_used (used (made_by entries)) k ≡ false → is_used (used (made_by (others number entries))) k ≡ false
+fewer-used number k [] none = refl
+fewer-used number k (x ∷ xs) none = by (x.number == number) (fewer-used number k xs (rest_bool (is_used (bits_of x.shared_type_indices) k) (is_used (used (made_by xs)) k) parts))
+  where
+    parts : (is_used (bits_of x.shared_type_indices) k || is_used (used (made_by xs)) k) ≡ false
+    parts = sym (used-append k (bits_of x.shared_type_indices) (used (made_by xs))) ∙ none
+
     first_bool : (a u : Bool) → (a || u) ≡ false → a ≡ false
     first_bool true u h = absurd (false≢true (sym h))
     first_bool false u h = refl
 
-kept_used : (mark : Bool) (e : RecGroupEntry) (left : List RecGroupEntry) (k : ℕ) → is_used (used (made_by (cond mark (e ∷ left) left))) k ≡ cond mark (is_used (bits_of e.shared_type_indices) k || is_used (used (made_by left)) k) (is_used (used (made_by left)) k)
-kept_used true e left k = used-append k (bits_of e.shared_type_indices) (used (made_by left))
-kept_used false e left k = refl
+    by : (b : Bool) → is_used (used (made_by (others number xs))) k ≡ false → is_used (used (made_by (cond (not b) (x ∷ others number xs) (others number xs)))) k ≡ false
+    by true rest = rest
+    by false rest =
+        used-append k (bits_of x.shared_type_indices) (used (made_by (others number xs)))
+        ∙ ap (λ b. b || is_used (used (made_by (others number xs))) k) (first_bool (is_used (bits_of x.shared_type_indices) k) (is_used (used (made_by xs)) k) parts) ∙ rest
 
--- what is free beside all and what was given back are what is free beside those that are left
-pub free-left : (marks : List Bool) (entries : List RecGroupEntry) (k : ℕ) → length marks ≡ length entries → AreSeparate entries
-    → (used_dropped marks entries k || not (is_used (used (made_by entries)) k)) ≡ not (is_used (used (made_by (marked_items marks entries))) k)
-free-left [] [] k long separate = refl
-free-left [] (e ∷ es) k long separate = absurd (omega (arith, long))
-free-left (mark ∷ marks) [] k long separate = refl
-free-left (mark ∷ marks) (e ∷ es) k long separate =
-    ap (λ b. (used_unless mark e k || used_dropped marks es k) || not b) (used-append k (bits_of e.shared_type_indices) (used (made_by es)))
-    ∙ dropped_bool mark (is_used (bits_of e.shared_type_indices) k) (is_used (used (made_by es)) k) (used_dropped marks es k) (is_used (used (made_by (marked_items marks es))) k)
-    (separate.1 k) (dropped-within marks es k) (free-left marks es k (omega (arith, long)) separate.2)
-    ∙ ap not (sym (kept_used mark e (marked_items marks es) k))
+pub separate-removed : (number : ℕ) (entries : List RecGroupEntry) → AreSeparate entries → AreSeparate (others number entries)
+separate-removed number [] separate = tt
+separate-removed number (x ∷ xs) separate = by (x.number == number) (separate-removed number xs separate.2)
+  where
+    by : (b : Bool) → AreSeparate (others number xs) → AreSeparate (cond (not b) (x ∷ others number xs) (others number xs))
+    by true rest = rest
+    by false rest = (separate.0, (λ k here. fewer-used number k xs (separate.1 k here)), rest)
+
+pub different-found : (e : RecGroupEntry) (entries : List RecGroupEntry) → AreSeparate entries → Among e entries → AreDifferent e.shared_type_indices
+different-found e [] separate at = absurd at
+different-found e (x ∷ xs) separate (inl same) = subst (λ (y : RecGroupEntry). AreDifferent y.shared_type_indices) (sym same) separate.0
+different-found e (x ∷ xs) separate (inr later) = different-found e xs separate.2 later
+
+among-used : (i : VMSharedTypeIndex) (xs : List VMSharedTypeIndex) → Among i xs → is_used (bits_of xs) i.0 ≡ true
+among-used i [] at = absurd at
+among-used i (x ∷ xs) (inl same) = own (ap (λ (y : VMSharedTypeIndex). y.0) (sym same)) (is_used (bits_of xs) i.0)
+  where
+    own : {m n : ℕ} → m ≡ n → (u : Bool) → ((m == n) || u) ≡ true
+    own {m} {n} same u = grind (arith, same)
+among-used i (x ∷ xs) (inr later) = or_right (x.0 == i.0) (is_used (bits_of xs) i.0) (among-used i xs later)
+
+-- its indices weren't free
+pub used-found-in : (i : VMSharedTypeIndex) (e : RecGroupEntry) (entries : List RecGroupEntry) → Among e entries → Among i e.shared_type_indices → is_used (used (made_by entries)) i.0 ≡ true
+used-found-in i e entries at here = among-used-in i.0 e entries at (among-used i e.shared_type_indices here)
 
 -- ---- the groups of a registry
 
@@ -214,39 +227,10 @@ next_place n = omega arith
 pub used-more : (xs : List VMSharedTypeIndex) (n k : ℕ) (d : VMSharedTypeIndex) → n < length xs → is_used (bits_of (take (n + 1) xs)) k ≡ (((get_or xs n d).0 == k) || is_used (bits_of (take n xs)) k)
 used-more xs n k d below = ap (λ m. is_used (bits_of (take m xs)) k) (next_place n) ∙ used-next xs n k d below
 
-pub dropped-more : (marks : List Bool) (entries : List RecGroupEntry) (n k : ℕ) (m : Bool) (d : RecGroupEntry) → n < length marks → n < length entries
-    → used_dropped (take (n + 1) marks) (take (n + 1) entries) k ≡ (used_unless (get_or marks n m) (get_or entries n d) k || used_dropped (take n marks) (take n entries) k)
-dropped-more marks entries n k m d below within = ap (λ i. used_dropped (take i marks) (take i entries) k) (next_place n) ∙ dropped-next marks entries n k m d below within
-
-pub different-at : (entries : List RecGroupEntry) (n : ℕ) (d : RecGroupEntry) → AreSeparate entries → n < length entries → AreDifferent (get_or entries n d).shared_type_indices
-different-at [] n d separate below = absurd (omega (arith, below))
-different-at (e ∷ es) zero d separate below = separate.0
-different-at (e ∷ es) (suc n) d separate below = different-at es n d separate.2 (omega (arith, below))
-
 pub or_assoc : (a b c : Bool) → (a || (b || c)) ≡ ((a || b) || c)
 or_assoc true b c = refl
 or_assoc false b c = refl
 
--- an index of a group that isn't marked isn't free before the group is reached
-pub used-still : (marks : List Bool) (entries : List RecGroupEntry) (n k : ℕ) (d : RecGroupEntry) (free before : ℕ → Bool) → AreSeparate entries → n < length entries
-    → ((j : ℕ) → before j ≡ not (is_used (used (made_by entries)) j)) → ((j : ℕ) → free j ≡ (used_dropped (take n marks) (take n entries) j || before j))
-    → is_used (bits_of (get_or entries n d).shared_type_indices) k ≡ true → free k ≡ false
-used-still marks entries n k d free before separate below beside is there =
-    is k ∙ ap (λ b. b || before k) (separate-before marks entries n k d separate below there) ∙ beside k ∙ ap not (used-at entries n k d below there)
-
-among-used : (i : VMSharedTypeIndex) (xs : List VMSharedTypeIndex) → Among i xs → is_used (bits_of xs) i.0 ≡ true
-among-used i [] at = absurd at
-among-used i (x ∷ xs) (inl same) = own (ap (λ (y : VMSharedTypeIndex). y.0) (sym same)) (is_used (bits_of xs) i.0)
-  where
-    own : {m n : ℕ} → m ≡ n → (u : Bool) → ((m == n) || u) ≡ true
-    own {m} {n} same u = grind (arith, same)
-among-used i (x ∷ xs) (inr later) = or_right (x.0 == i.0) (is_used (bits_of xs) i.0) (among-used i xs later)
-  where
-    or_right : (a b : Bool) → b ≡ true → (a || b) ≡ true
-    or_right true b h = refl
-    or_right false b h = h
-
-pub used-still-among : (marks : List Bool) (entries : List RecGroupEntry) (n : ℕ) (i : VMSharedTypeIndex) (d : RecGroupEntry) (free before : ℕ → Bool) → AreSeparate entries → n < length entries
-    → ((j : ℕ) → before j ≡ not (is_used (used (made_by entries)) j)) → ((j : ℕ) → free j ≡ (used_dropped (take n marks) (take n entries) j || before j))
-    → Among i (get_or entries n d).shared_type_indices → free i.0 ≡ false
-used-still-among marks entries n i d free before separate below beside is at = used-still marks entries n i.0 d free before separate below beside is (among-used i (get_or entries n d).shared_type_indices at)
+-- what is found by a number
+pub found-parts : (number : ℕ) (entries : List RecGroupEntry) (e : RecGroupEntry) → find (λ (x : RecGroupEntry). x.number == number) entries ≡ Some e → (e.number ≡ number) × Among e entries
+found-parts number entries e is = let found = find-found (λ (x : RecGroupEntry). x.number == number) entries e is in (eqb-true e.number number found.0, found.1)

@@ -8,3 +8,4 @@ pub mod PartKept
 pub mod Ready
 pub mod marks
 pub mod GivenBack
+pub mod counts

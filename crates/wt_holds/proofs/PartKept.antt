@@ -1,14 +1,15 @@
 -- Where what isn't reached is removed, what is kept stays kept.
-use Rattle.std.proofs.Common.{◌≡◌, ℕ, Bool, List, length, sym, ap, subst, arith}
+use Rattle.std.proofs.Common.{◌≡◌, ℕ, Bool, [], List, length, sym, ap, subst, arith}
 use Rattle.wt_env.specs.Limits.{EngineParts}
 use Rattle.wt_keys.specs.declared.entry.RecGroupEntry.{RecGroupEntry}
 use Rattle.wt_model.specs.declared.ever.EverRegistered.{EverRegistered}
 use Rattle.wt_holds.specs.declared.inner.TypeRegistryInner.{TypeRegistryInner}
-use Rattle.wt_keys.specs.Entries.{made_by}
+use Rattle.std.proofs.lemmas.List.{length-map}
+use Rattle.wt_keys.specs.Entries.{made_of, made_by}
 use Rattle.wt_holds.specs.Kept.{registry_at}
 use Rattle.wt_keys.specs.Keys.{AreKeys}
 use Rattle.wt_keys.specs.Keys.{AreShown}
-use Rattle.wt_holds.specs.Kept.{AreKept}
+use Rattle.wt_holds.specs.Kept.{AreKept, AreRemoving}
 use Rattle.wt_holds.specs.Marks.{kept_entries}
 use Rattle.wt_model.specs.Registered.{GroupHolds, Registry}
 use Rattle.wt_model.specs.Removal.{reached_in, reached_part}
@@ -26,10 +27,10 @@ counted_as engine groups standings = record (registry_at engine groups) { standi
 pub part-keeps : (engine : EngineParts) (groups after : TypeRegistryInner) (standings : List GroupHolds) → AreKept engine groups
     → reached_part (counted_as engine groups standings) ≡ registry_at engine after
     → after.entries ≡ kept_entries (reached_in (counted_as engine groups standings)) groups.entries
-    → length after.marks.items ≡ length after.entries
+    → AreRemoving after [] → after.stack.items ≡ []
     → HoldsInvariant engine (reached_part (counted_as engine groups standings)).made (reached_part (counted_as engine groups standings)).standings
     → AreKept engine after
-part-keeps engine groups after standings kept part entries marks stands = record {
+part-keeps engine groups after standings kept part entries removed stack stands = record {
   keys = subst (λ (es : List RecGroupEntry). AreKeys es after.given.numbers) (sym entries)
       (subst (λ (g : EverRegistered). AreKeys (kept_entries keep old) g.numbers) given (keys-kept keep old groups.given.numbers kept.keys led));
   shown = subst AreShown (sym entries) (shown-kept keep old kept.shown);
@@ -40,7 +41,10 @@ part-keeps engine groups after standings kept part entries marks stands = record
       let before = kept.within in
       omega (arith, few, same, before);
   below = subst (λ (r : Registry). AreBelow engine.limits.types r.made) part (below-kept keep (made_by old) engine.limits.types kept.below);
-  marks = marks;
+  references = λ n. let told = removed.falling.cascading.counted n in omega (arith, told);
+  totals = removed.falling.totals;
+  stack = stack;
+  room = let within = removed.falling.within in let same = length-map after.entries made_of in omega (arith, within, same);
   holds = subst (λ (r : Registry). HoldsInvariant engine r.made r.standings) part stands;
 }
   where

@@ -1,15 +1,11 @@
 -- The indices of groups that are removed.
-use Rattle.std.specs.Prelude.{◌≡◌, ℕ, List, [], ◌∷◌, map, Bool, true, false, not, if◌then◌else◌}
+use Rattle.std.specs.Prelude.{◌≡◌, ℕ, List, [], ◌∷◌, map, true, false, not}
 use Rattle.wt_env.specs.declared.types.VMSharedTypeIndex.{VMSharedTypeIndex}
 use Rattle.wt_model.specs.Registered.{RegisteredGroup}
 use Rattle.wt_model.specs.Indices.{used, is_used}
 use Rattle.wt_indices.specs.Free.{FreeSet, is_free_before}
 use Rattle.wt_keys.specs.declared.entry.RecGroupEntry.{RecGroupEntry}
 use Rattle.wt_keys.specs.Entries.{made_by}
-
--- whether an entry that isn't marked has an index
-abbrev pub used_unless : Bool → RecGroupEntry → ℕ → Bool
-used_unless marked entry k = if marked then false else is_used (map (λ i. i.0) entry.shared_type_indices) k
 
 -- no index stands there twice
 abbrev pub AreDifferent : List VMSharedTypeIndex → Type 0

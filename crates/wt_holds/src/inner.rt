@@ -10,8 +10,8 @@ use wt_model::ever::EverRegistered;
 pub struct TypeRegistryInner {
     pub entries: RecGroupEntries,
     pub counts: Vec<HoldCounts>,
-    /// A mark for each group, for the time of a search of what is reached: their room is taken when a group
-    /// is registered.
-    pub marks: Vec<bool>,
+    /// The numbers of groups that are to be removed, for the time of a removal: their room is taken when a group is
+    /// registered.
+    pub stack: Vec<u64>,
     pub given: EverRegistered,
 }

@@ -5,5 +5,5 @@
 pub mod giving_back;
 pub mod hold_counts;
 pub mod inner;
-pub mod marking;
+pub mod plain;
 pub mod removal;

@@ -1,79 +1,155 @@
-//! The end of holds, sweeps, and the removal of what isn't reached any more.
+//! The end of holds, sweeps, and the removal of what isn't reached any more: each group that is removed lowers the counts
+//! of what it leads to, and what falls so is removed next.
 
-ghost use Rattle.std.specs.Prelude.{◌≡◌, ◌^◌, ℕ, Bool, true, ◌<◌, ◌≤◌, length, map};
+ghost use Rattle.std.specs.Prelude.{◌≡◌, ◌^◌, ℕ, ◌+◌, ◌∷◌, [], ◌++◌, ◌==◌, ◌&&◌, not, Bool, true, ◌<◌, ◌≤◌, List, length, map, vec_capacity};
+ghost use Rattle.std.specs.List.{filter_map};
+ghost use Rattle.std.specs.Option.{option_to_list};
 ghost use Rattle.wt_env.specs.Limits.{EngineParts};
-ghost use Rattle.wt_model.specs.Holds as held;
 ghost use Rattle.wt_env.specs.Among.{Among};
-ghost use Rattle.wt_model.specs.Holds.{held_at};
-ghost use Rattle.wt_model.specs.Holds.{times};
+ghost use Rattle.wt_model.specs.Registered.{RegisteredGroup};
+ghost use Rattle.wt_model.specs.Reach.{edges};
+ghost use Rattle.wt_model.specs.Holds.{held_at, times, is_registered};
 ghost use Rattle.wt_holds.specs.declared.hold_counts.HoldCounts.{HoldCounts as CountOf};
-ghost use Rattle.wt_model.specs.Removal.{drop_hold, sweep_debt, release_holds, fewer_of, is_rooted, is_root, is_reached, reached_part};
-ghost use Rattle.wt_holds.specs.Marks.{marked};
-ghost use Rattle.wt_holds.specs.Counts.{standings_of};
-ghost use Rattle.wt_keys.specs.Entries.{made_by};
-ghost use Rattle.wt_holds.specs.Kept.{registry_at};
-ghost use Rattle.wt_holds.specs.Kept.{AreKept, IsReady};
-ghost use Rattle.wt_holds.specs.GivenBack.{AreSeparate, HasFree};
+ghost use Rattle.wt_model.specs.Removal.{drop_hold, sweep_debt, release_holds, fewer_of, is_root, is_reached, reached_part, kept_standings};
+ghost use Rattle.wt_holds.specs.Counts.{standings_of, references_at, AreTotals};
+ghost use Rattle.wt_holds.specs.References.{pushed_if, Cascading};
+ghost use Rattle.wt_keys.specs.Entries.{made_of, made_by};
+ghost use Rattle.wt_holds.specs.Kept.{registry_at, Falling, AreRemoving, AreKept, IsReady};
 ghost use Rattle.wt_holds.specs.Marks.{kept_entries};
+ghost use Rattle.wt_holds.specs.GivenBack.{AreSeparate, HasFree};
 
-use crate::giving_back::give_back_unmarked;
-use crate::hold_counts::{HoldCounts, entry_place, has_number, is_held, lose, set_waits, waits};
+use crate::giving_back::give_back_indices;
+use crate::hold_counts::{
+    HoldCounts, has_number, is_loose, lose, lower_reference, remove_row, set_waits, waits,
+};
 use crate::inner::TypeRegistryInner;
-use crate::marking::mark_reached;
 use wt_env::limits::Engine;
 use wt_indices::free_indices::FreeIndices;
-use wt_keys::marking::remove_unmarked;
+use wt_keys::entry::RecGroupEntry;
 use wt_model::swept::Swept;
 
-/// Whether each group is held or waits, in order.
-fn mark_roots(counts: &[HoldCounts], marks: &mut [bool])
-    requires { length marks.old ≡ length counts.now }
-    ensures { marks.new ≡ map is_rooted (standings_of counts.now) }
+/// Pushes a group that nothing keeps any more. There is room for it.
+fn push_if_loose(counts: &[HoldCounts], stack: &mut Vec<u64>, number: u64)
+    requires totals { AreTotals counts.now }
+    requires room { length (stack.old.items ++ pushed_if ((references_at counts.now number == 0) && not (is_root (standings_of counts.now) number)) number) ≤ vec_capacity stack.old }
+    ensures items { stack.new.items ≡ stack.old.items ++ pushed_if ((references_at counts.now number == 0) && not (is_root (standings_of counts.now) number)) number }
+    ensures capacity { vec_capacity stack.new ≡ vec_capacity stack.old }
 {
-    for (place, count) in counts.iter().enumerate() {
-        marks[place] = is_held(&count.holds) || count.waits;
+    if is_loose(counts, number) {
+        stack.push_reserved(number);
     }
 }
 
-/// Marks the groups that are reached from what is held or waits. It takes no memory.
-fn mark(groups: &mut TypeRegistryInner)
-    requires { IsReady groups.old }
-    ensures marks { groups.new.marks.items ≡ marked (is_reached (made_by groups.old.entries) (is_root (standings_of groups.old.counts.items))) (made_by groups.old.entries) }
-    ensures entries { groups.new.entries ≡ groups.old.entries }
-    ensures counts { groups.new.counts ≡ groups.old.counts }
-    ensures given { groups.new.given ≡ groups.old.given }
+/// One reference to a group less, which is pushed where nothing keeps it then.
+fn lower(counts: &mut Vec<HoldCounts>, stack: &mut Vec<u64>, number: u64)
+    requires { (made : List RegisteredGroup) × (rest : List ℕ) × Falling made counts.old.items stack.old.items (vec_capacity stack.old) (number ∷ rest) }
+    ensures standings { standings_of counts.new.items ≡ standings_of counts.old.items }
+    ensures falls { (made : List RegisteredGroup) (rest : List ℕ) → Falling made counts.old.items stack.old.items (vec_capacity stack.old) (number ∷ rest)
+        → Falling made counts.new.items stack.new.items (vec_capacity stack.new) rest }
+    ensures capacity { vec_capacity stack.new ≡ vec_capacity stack.old }
 {
-    mark_roots(groups.counts.as_slice(), groups.marks.as_mut_slice());
-    mark_reached(groups.entries.as_slice(), groups.marks.as_mut_slice());
+    lower_reference(counts, number);
+    push_if_loose(counts.as_slice(), stack, number);
 }
 
-/// Whether the group with this number is marked.
-fn is_marked(groups: &TypeRegistryInner, number: u64) -> bool
-    requires ready { IsReady groups.now }
-    ensures { (keep : ℕ → Bool) → groups.now.marks.items ≡ marked keep (made_by groups.now.entries)
-        → held.is_registered (made_by groups.now.entries) number ≡ true → result ≡ keep number }
+/// One reference less to each group that these name.
+fn lower_named(counts: &mut Vec<HoldCounts>, stack: &mut Vec<u64>, references: &[(u64, u32)])
+    requires { (made : List RegisteredGroup) × (rest : List ℕ)
+        × Falling made counts.old.items stack.old.items (vec_capacity stack.old) (map (λ reference. reference.0) references.now ++ rest) }
+    ensures standings { standings_of counts.new.items ≡ standings_of counts.old.items }
+    ensures falls { (made : List RegisteredGroup) (rest : List ℕ)
+        → Falling made counts.old.items stack.old.items (vec_capacity stack.old) (map (λ reference. reference.0) references.now ++ rest)
+        → Falling made counts.new.items stack.new.items (vec_capacity stack.new) rest }
+    ensures capacity { vec_capacity stack.new ≡ vec_capacity stack.old }
 {
-    match entry_place(groups.entries.as_slice(), number) {
-        Some(place) => groups.marks[place],
-        None => false,
+    for reference in references {
+        lower(counts, stack, reference.0);
     }
 }
 
-/// Removes what isn't reached any more. It takes no memory.
-fn remove_unreached(groups: &mut TypeRegistryInner, free: &mut FreeIndices)
-    requires ready { IsReady groups.old }
+/// One reference less to the trampoline of a member, where one is told.
+fn lower_told(counts: &mut Vec<HoldCounts>, stack: &mut Vec<u64>, told: Option<u64>)
+    requires { (made : List RegisteredGroup) × (rest : List ℕ) × Falling made counts.old.items stack.old.items (vec_capacity stack.old) (option_to_list told ++ rest) }
+    ensures standings { standings_of counts.new.items ≡ standings_of counts.old.items }
+    ensures falls { (made : List RegisteredGroup) (rest : List ℕ) → Falling made counts.old.items stack.old.items (vec_capacity stack.old) (option_to_list told ++ rest)
+        → Falling made counts.new.items stack.new.items (vec_capacity stack.new) rest }
+    ensures capacity { vec_capacity stack.new ≡ vec_capacity stack.old }
+{
+    if let Some(number) = told {
+        lower(counts, stack, number);
+    }
+}
+
+/// One reference less to each trampoline that is told.
+fn lower_trampolines(
+    counts: &mut Vec<HoldCounts>,
+    stack: &mut Vec<u64>,
+    trampolines: &[Option<u64>],
+)
+    requires { (made : List RegisteredGroup) × (rest : List ℕ)
+        × Falling made counts.old.items stack.old.items (vec_capacity stack.old) (filter_map (λ told. told) trampolines.now ++ rest) }
+    ensures standings { standings_of counts.new.items ≡ standings_of counts.old.items }
+    ensures falls { (made : List RegisteredGroup) (rest : List ℕ)
+        → Falling made counts.old.items stack.old.items (vec_capacity stack.old) (filter_map (λ told. told) trampolines.now ++ rest)
+        → Falling made counts.new.items stack.new.items (vec_capacity stack.new) rest }
+    ensures capacity { vec_capacity stack.new ≡ vec_capacity stack.old }
+{
+    for told in trampolines {
+        lower_told(counts, stack, *told);
+    }
+}
+
+/// One reference less for each edge of a group that was removed.
+fn lower_edges(counts: &mut Vec<HoldCounts>, stack: &mut Vec<u64>, entry: &RecGroupEntry)
+    requires { (made : List RegisteredGroup) × Falling made counts.old.items stack.old.items (vec_capacity stack.old) (edges (made_of entry.now)) }
+    ensures standings { standings_of counts.new.items ≡ standings_of counts.old.items }
+    ensures falls { (made : List RegisteredGroup) → Falling made counts.old.items stack.old.items (vec_capacity stack.old) (edges (made_of entry.now))
+        → Falling made counts.new.items stack.new.items (vec_capacity stack.new) [] }
+    ensures capacity { vec_capacity stack.new ≡ vec_capacity stack.old }
+{
+    lower_named(counts, stack, entry.outer.as_slice());
+    lower_trampolines(counts, stack, entry.trampolines.as_slice());
+}
+
+/// Removes a group that was on the stack.
+fn remove_group(groups: &mut TypeRegistryInner, free: &mut FreeIndices, number: u64)
+    requires removing { AreRemoving groups.old (groups.old.stack.items ++ number ∷ []) }
     requires separate { AreSeparate groups.old.entries }
     requires free { HasFree (made_by groups.old.entries) free.old }
+    ensures separate { AreSeparate groups.new.entries }
+    ensures free { HasFree (made_by groups.new.entries) free.new }
+    ensures removing { AreRemoving groups.new groups.new.stack.items }
+    ensures shorter { length groups.new.entries + 1 ≡ length groups.old.entries }
+    ensures entries { kept_entries (is_reached (made_by groups.new.entries) (is_root (standings_of groups.new.counts.items))) groups.new.entries
+        ≡ kept_entries (is_reached (made_by groups.old.entries) (is_root (standings_of groups.old.counts.items))) groups.old.entries }
+    ensures standings { kept_standings (is_reached (made_by groups.new.entries) (is_root (standings_of groups.new.counts.items))) (standings_of groups.new.counts.items)
+        ≡ kept_standings (is_reached (made_by groups.old.entries) (is_root (standings_of groups.old.counts.items))) (standings_of groups.old.counts.items) }
+    ensures given { groups.new.given ≡ groups.old.given }
+{
+    remove_row(&mut groups.counts, number);
+    match groups.entries.remove(number) {
+        Some(entry) => {
+            lower_edges(&mut groups.counts, &mut groups.stack, &entry);
+            give_back_indices(free, entry.shared_type_indices.as_slice());
+        }
+        None => unreachable!(),
+    }
+}
+
+/// Removes the groups on the stack, and all that nothing keeps then. It takes no memory.
+fn remove_pushed(groups: &mut TypeRegistryInner, free: &mut FreeIndices)
+    requires removing { AreRemoving groups.old groups.old.stack.items }
+    requires separate { AreSeparate groups.old.entries }
+    requires free { HasFree (made_by groups.old.entries) free.old }
+    ensures free { HasFree (made_by groups.new.entries) free.new }
     ensures part { (engine : EngineParts) → reached_part (registry_at engine groups.old) ≡ registry_at engine groups.new }
     ensures entries { groups.new.entries ≡ kept_entries (is_reached (made_by groups.old.entries) (is_root (standings_of groups.old.counts.items))) groups.old.entries }
-    ensures marks { length groups.new.marks.items ≡ length groups.new.entries }
-    ensures free { HasFree (made_by groups.new.entries) free.new }
+    ensures removing { AreRemoving groups.new [] }
+    ensures stack { groups.new.stack.items ≡ [] }
 {
-    mark(groups);
-    give_back_unmarked(free, groups.entries.as_slice(), groups.marks.as_slice());
-    groups.entries.remove_unmarked(groups.marks.as_slice());
-    remove_unmarked(&mut groups.counts, groups.marks.as_slice());
-    groups.marks.truncate(groups.entries.len());
+    while let Some(number) = groups.stack.pop() {
+        remove_group(groups, free, number);
+    }
 }
 
 /// Ends a hold of a party on a group. Where the group is reached by nothing any more, it waits, and its number
@@ -91,8 +167,7 @@ pub fn end_hold(
     ensures kept { AreKept engine.now groups.new }
 {
     lose(&mut groups.counts, party, number);
-    mark(groups);
-    if is_marked(groups, number) {
+    if !is_loose(groups.counts.as_slice(), number) {
         return None;
     }
     set_waits(&mut groups.counts, number, true);
@@ -112,7 +187,8 @@ pub fn sweep_group(groups: &mut TypeRegistryInner, free: &mut FreeIndices, numbe
     if waits(groups.counts.as_slice(), number) {
         let before = groups.entries.len();
         set_waits(&mut groups.counts, number, false);
-        remove_unreached(groups, free);
+        push_if_loose(groups.counts.as_slice(), &mut groups.stack, number);
+        remove_pushed(groups, free);
         return Swept::Removed((before - groups.entries.len()) as u32);
     }
     if has_number(groups.entries.as_slice(), number) {
@@ -122,14 +198,32 @@ pub fn sweep_group(groups: &mut TypeRegistryInner, free: &mut FreeIndices, numbe
     }
 }
 
-/// One hold of a party less on each of these groups, in turn.
-fn lose_each(counts: &mut Vec<HoldCounts>, party: u32, numbers: &[u64])
+/// One hold of a party on a group less, which is pushed where nothing keeps it then.
+fn lose_one(counts: &mut Vec<HoldCounts>, stack: &mut Vec<u64>, party: u32, number: u64)
+    requires parties { (count : CountOf) → Among count counts.old.items → party < length count.holds.items }
+    requires held { 1 ≤ held_at (standings_of counts.old.items) party number }
+    requires falling { (made : List RegisteredGroup) × Falling made counts.old.items stack.old.items (vec_capacity stack.old) [] }
+    ensures standings { standings_of counts.new.items ≡ fewer_of party (number ∷ []) (standings_of counts.old.items) }
+    ensures falls { (made : List RegisteredGroup) → Falling made counts.old.items stack.old.items (vec_capacity stack.old) []
+        → Falling made counts.new.items stack.new.items (vec_capacity stack.new) [] }
+    ensures capacity { vec_capacity stack.new ≡ vec_capacity stack.old }
+{
+    lose(counts, party, number);
+    push_if_loose(counts.as_slice(), stack, number);
+}
+
+/// One hold of a party less on each of these groups, in turn: those that nothing keeps then are pushed.
+fn lose_each(counts: &mut Vec<HoldCounts>, stack: &mut Vec<u64>, party: u32, numbers: &[u64])
     requires parties { (count : CountOf) → Among count counts.old.items → party < length count.holds.items }
     requires held { (number : ℕ) → times number numbers.now ≤ held_at (standings_of counts.old.items) party number }
-    ensures { standings_of counts.new.items ≡ fewer_of party numbers.now (standings_of counts.old.items) }
+    requires falling { (made : List RegisteredGroup) × Falling made counts.old.items stack.old.items (vec_capacity stack.old) [] }
+    ensures standings { standings_of counts.new.items ≡ fewer_of party numbers.now (standings_of counts.old.items) }
+    ensures falls { (made : List RegisteredGroup) → Falling made counts.old.items stack.old.items (vec_capacity stack.old) []
+        → Falling made counts.new.items stack.new.items (vec_capacity stack.new) [] }
+    ensures capacity { vec_capacity stack.new ≡ vec_capacity stack.old }
 {
     for number in numbers {
-        lose(counts, party, *number);
+        lose_one(counts, stack, party, *number);
     }
 }
 
@@ -149,6 +243,6 @@ pub fn release_groups(
     ensures released { release_holds (registry_at engine.now groups.old) party numbers.now ≡ registry_at engine.now groups.new }
     ensures kept { AreKept engine.now groups.new }
 {
-    lose_each(&mut groups.counts, party, numbers);
-    remove_unreached(groups, free);
+    lose_each(&mut groups.counts, &mut groups.stack, party, numbers);
+    remove_pushed(groups, free);
 }
