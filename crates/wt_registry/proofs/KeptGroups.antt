@@ -1,6 +1,6 @@
 -- What is kept true of all that is registered, where nothing is changed and where a plan is carried out.
-use Rattle.std.proofs.Common.{◌≡◌, ℕ, ◌+◌, ◌<◌, ◌≤◌, ◌==◌, ◌⊎◌, inl, inr, Bool, true, false, cond, nat_lt, List, [], ◌∷◌, ◌++◌, length, map, None, refl, sym, ap, subst, ◌∙◌, ⊎_elim, arith}
-use Rattle.std.proofs.lemmas.List.{length-append, length-map}
+use Rattle.std.proofs.Common.{◌≡◌, ℕ, ◌+◌, ◌<◌, ◌≤◌, ◌==◌, ◌⊎◌, inl, inr, Bool, true, false, cond, nat_lt, List, [], ◌∷◌, ◌++◌, length, map, None, vec_capacity, refl, sym, ap, subst, ◌∙◌, ⊎_elim, arith}
+use Rattle.std.proofs.lemmas.List.{length-append, length-map, map-append}
 use Rattle.wt_env.specs.Among.{Among}
 use Rattle.wt_env.specs.Limits.{EngineParts}
 use Rattle.wt_env.specs.declared.limits.EngineLimits.{EngineLimits}
@@ -14,7 +14,7 @@ use Rattle.wt_model.specs.Registered.{RegisteredGroup, Registry}
 use Rattle.wt_model.specs.Indices.{used}
 use Rattle.wt_model.specs.Holds.{held_at, times, hold_each}
 use Rattle.wt_model.specs.Plan.{Plan, Occurs, groups_of}
-use Rattle.wt_model.specs.Limits.{first_full, wanted_of, holds_wanted, passed_limit}
+use Rattle.wt_model.specs.Limits.{references_of, first_full, wanted_of, holds_wanted, passed_limit}
 use Rattle.wt_model.specs.Registration.{new_holds, stop_waiting_each, carried_out}
 use Rattle.wt_model.specs.Sound.{IsRising, NamesOlder, AreBelow, KeepRules, AreCounted, HoldsInvariant}
 use Rattle.wt_model.proofs.plan.CarriedOut.{CanCarryOut, carried-holds}
@@ -26,20 +26,25 @@ use Rattle.wt_plan.specs.declared.plan.Plan.{Plan as PlanFields}
 use Rattle.wt_plan.specs.Planned.{plan_of, AreNewBelow}
 use Rattle.wt_plan.proofs.Planning.{groups_of-joined}
 use Rattle.wt_holds.specs.declared.inner.TypeRegistryInner.{TypeRegistryInner}
-use Rattle.wt_holds.specs.Counts.{standings_of}
+use Rattle.wt_holds.specs.Counts.{standings_of, references_at, AreTotals}
+use Rattle.wt_holds.specs.References.{references}
+use Rattle.wt_registry.proofs.Tallied.{references-append}
 use Rattle.wt_holds.specs.Kept.{AreKept, registry_at}
 use Rattle.wt_holds.proofs.Counted.{held_at-bounded}
 
 -- the same entries, counts, marks and numbers are kept as they were
 pub kept-same : (engine : EngineParts) (old new : TypeRegistryInner) → AreKept engine old → new.entries ≡ old.entries → new.counts.items ≡ old.counts.items
-    → new.marks.items ≡ old.marks.items → new.given ≡ old.given → AreKept engine new
-kept-same engine old new kept entries counts marks given = record {
+    → new.stack.items ≡ old.stack.items → vec_capacity old.stack ≤ vec_capacity new.stack → new.given ≡ old.given → AreKept engine new
+kept-same engine old new kept entries counts stack capacity given = record {
   keys = subst (λ (list : List RecGroupEntry). AreKeys list new.given.numbers) (sym entries) (subst (λ (g : EverRegistered). AreKeys old.entries g.numbers) (sym given) kept.keys);
   shown = subst AreShown (sym entries) kept.shown;
   rules = subst (λ (list : List RecGroupEntry). KeepRules (made_by list)) (sym entries) kept.rules;
   within = subst (λ (list : List RecGroupEntry). length list ≤ engine.limits.groups) (sym entries) kept.within;
   below = subst (λ (list : List RecGroupEntry). AreBelow engine.limits.types (made_by list)) (sym entries) kept.below;
-  marks = ap length marks ∙ kept.marks ∙ ap length (sym entries);
+  references = λ n. (λ i. references_at (counts i) n) ∙ kept.references n ∙ ap (λ (list : List RecGroupEntry). references (made_by list) n) (sym entries);
+  totals = subst AreTotals (sym counts) kept.totals;
+  stack = stack ∙ kept.stack;
+  room = let room = kept.room in let same = ap length entries in omega (arith, room, same, capacity);
   holds = subst (λ (list : List RecGroupEntry). HoldsInvariant engine (made_by list) (standings_of new.counts.items)) (sym entries)
       (subst (λ standings. HoldsInvariant engine (made_by old.entries) standings) (ap standings_of (sym counts)) kept.holds);
 }
@@ -72,6 +77,11 @@ module _ (registry : Registry) (party : ℕ) (plan : Plan) (none : passed_limit 
   types_within =
       none_above (counted_limits ++ held_limits) none (record { limit = limit.Types; bound = limits.types; wanted = length (used (groups_of plan)) })
       (among_before counted_limits held_limits (record { limit = limit.Types; bound = limits.types; wanted = length (used (groups_of plan)) }) (inr (inl refl)))
+
+  pub references_within : references_of (groups_of plan) ≤ registry.engine.limits.references
+  references_within =
+      none_above (counted_limits ++ held_limits) none (record { limit = limit.References; bound = limits.references; wanted = references_of (groups_of plan) })
+      (among_before counted_limits held_limits (record { limit = limit.References; bound = limits.references; wanted = references_of (groups_of plan) }) (inr (inr (inl refl))))
 
   wanted_for : (rest : List ℕ) (n : ℕ) → Among n rest
       → Among (record { limit = limit.Holds; bound = limits.holds; wanted = held_at registry.standings party n + times n plan.numbers }) (holds_wanted limits registry.standings party plan.numbers rest)
@@ -137,19 +147,25 @@ module _ (engine : EngineParts) (old : TypeRegistryInner) (plan : PlanFields) (p
     pub carried-at : carried_out (registry_at engine old) party (plan_of old.entries plan) ≡ registry_at engine new
     carried-at = λ i. record { engine = engine; made = made-new i; given = (sym given) i; standings = (sym counts) i }
 
-    pub kept-carried : KeepRules (made_by (old.entries ++ plan.added)) → AreShown plan.added → AreNewBelow old.entries plan.added → length new.marks.items ≡ length old.marks.items + length plan.added → AreKept engine new
-    kept-carried rules shown below marks =
+    pub kept-carried : KeepRules (made_by (old.entries ++ plan.added)) → AreShown plan.added → AreNewBelow old.entries plan.added
+        → ((n : ℕ) → references_at new.counts.items n ≡ references_at old.counts.items n + references (made_by plan.added) n) → AreTotals new.counts.items → new.stack.items ≡ [] → length old.entries + length plan.added ≤ vec_capacity new.stack → AreKept engine new
+    kept-carried rules shown below more totals stack room =
         let grouped = groups_within (registry_at engine old) party (plan_of old.entries plan) none in
         let so_many : length (groups_of (plan_of old.entries plan)) ≡ length new.entries = ap length made-new ∙ length-map new.entries made_of in
         let longer : length new.entries ≡ length old.entries + length plan.added = ap length entries ∙ length-append old.entries plan.added in
-        let marked = kept.marks in
         record {
           keys = subst (λ (list : List RecGroupEntry). AreKeys list new.given.numbers) (sym entries) (subst (λ (g : EverRegistered). AreKeys (old.entries ++ plan.added) g.numbers) (sym given) keys);
           shown = subst AreShown (sym entries) (λ entry at. ⊎_elim (kept.shown entry) (shown entry) (among_either old.entries plan.added entry at));
           rules = subst (λ (list : List RecGroupEntry). KeepRules (made_by list)) (sym entries) rules;
           within = omega (arith, grouped, so_many);
           below = subst (AreBelow engine.limits.types) made-new (λ a i at there. all_below a i (among_either (made_by old.entries) (made_by plan.added) a at) there);
-          marks = omega (arith, marks, longer, marked);
+          references = λ n.
+              more n
+              ∙ ap (λ t. t + references (made_by plan.added) n) (kept.references n)
+              ∙ sym (ap (λ (list : List RecGroupEntry). references (made_by list) n) entries ∙ ap (λ made. references made n) (map-append made_of old.entries plan.added) ∙ references-append (made_by old.entries) (made_by plan.added) n);
+          totals = totals;
+          stack = stack;
+          room = omega (arith, room, longer);
           holds = subst (λ (made : List RegisteredGroup). HoldsInvariant engine made (standings_of new.counts.items)) made-new
               (subst (λ after. HoldsInvariant engine (groups_of (plan_of old.entries plan)) after) (sym counts)
               (carried-holds engine (made_by old.entries) (made_by plan.added) (standings_of old.counts.items) party plan.numbers.items can-carry));

@@ -6,3 +6,5 @@ pub mod Sums
 pub mod WantedLimits
 pub mod HostRegistrations
 pub mod FreeKept
+pub mod Leading
+pub mod Tallied

@@ -14,3 +14,4 @@ pub use Rattle.wt_model.specs.Sound
 pub use Rattle.wt_model.specs.Changes
 pub use Rattle.wt_model.specs.Shown
 pub use Rattle.wt_model.specs.Live
+pub mod LeadsTo

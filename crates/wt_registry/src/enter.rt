@@ -1,14 +1,14 @@
 //! Registrations that were planned: their limits, the room for them, and then the change.
 
-ghost use Rattle.std.specs.Prelude.{◌≡◌, ℕ, ◌+◌, ◌^◌, ◌<◌, ◌≤◌, ◌++◌, length, map, false, None, Ok, Err, IfOk, IfErr, OnOk, OnErr, List, option_map, vec_len, vec_capacity};
-ghost use Rattle.std.specs.List.{filter_map};
+ghost use Rattle.std.specs.Prelude.{◌≡◌, ℕ, [], ◌∷◌, ◌+◌, ◌^◌, ◌<◌, ◌≤◌, ◌++◌, length, map, false, None, Ok, Err, IfOk, IfErr, OnOk, OnErr, List, option_map, vec_len, vec_capacity};
+ghost use Rattle.std.specs.List.{flat_map};
 ghost use Rattle.std.specs.Option.{option_to_list};
 ghost use Rattle.wt_env.specs.Among.{Among};
 ghost use Rattle.wt_env.specs.Limits.{EngineParts};
 ghost use Rattle.wt_model.specs.declared.ever.EverRegistered.{EverRegistered as EverOf};
 ghost use Rattle.wt_model.specs.Trampolines.{trampolines_of};
 ghost use Rattle.wt_model.specs.Reach.{edges};
-ghost use Rattle.wt_model.specs.Holds.{held_at, stop_waiting as no_longer_waits, change, gained, hold, times, hold_each as held_each};
+ghost use Rattle.wt_model.specs.Holds.{held_at, change, gained, hold, times, hold_each as held_each};
 ghost use Rattle.wt_model.specs.Plan.{Occurs};
 ghost use Rattle.wt_model.specs.Limits.{passed_limit as limit_passed};
 ghost use Rattle.wt_model.specs.Registration.{new_holds, stop_waiting_each as none_waits, carried_out, IsRefusal};
@@ -20,7 +20,9 @@ ghost use Rattle.wt_keys.specs.Filed.{AreApart};
 ghost use Rattle.wt_keys.specs.Keys.{AreKeys, AreShown};
 ghost use Rattle.wt_plan.specs.Planned.{plan_of, AreNewBelow};
 ghost use Rattle.wt_holds.specs.declared.hold_counts.HoldCounts.{HoldCounts as CountsOf};
-ghost use Rattle.wt_holds.specs.Counts.{standings_of};
+ghost use Rattle.wt_holds.specs.Counts.{standings_of, references_at, total_at, AreTotals};
+ghost use Rattle.wt_holds.specs.References.{references};
+ghost use Rattle.wt_registry.specs.LeadsTo.{IsFresh, CanLead, LeadsTo};
 ghost use Rattle.wt_holds.specs.Kept.{AreKept, registry_of, registry_at};
 
 use crate::wanted::passed_limit;
@@ -28,7 +30,7 @@ use std::alloc::Global;
 use wt_env::limits::{Engine, Limit};
 use wt_env::memory::OutOfMemory;
 use wt_env::types::VMSharedTypeIndex;
-use wt_holds::hold_counts::{HoldCounts, gain, held_by, no_holds, set_waits};
+use wt_holds::hold_counts::{HoldCounts, gain, held_by, no_holds, raise_reference, set_waits};
 use wt_holds::inner::TypeRegistryInner;
 use wt_keys::entries::RecGroupEntries;
 use wt_keys::entry::RecGroupEntry;
@@ -45,12 +47,15 @@ fn new_counts(
     requires { parties ≤ 1024 }
     ensures counts { IfOk result (λ counts. (engine : EngineParts) → engine.limits.parties ≡ parties
         → standings_of counts.items ≡ map (new_holds engine) (made_by added.now)) }
+    ensures fresh { IfOk result (λ counts. (count : CountsOf) → Among count counts.items → IsFresh count) }
     ensures len { IfOk result (λ counts. vec_len counts ≡ length added.now) }
 {
     let mut counts = Vec::new(alloc);
     for entry in added {
         counts.push(HoldCounts {
             number: entry.number,
+            references: 0,
+            total: 0,
             holds: no_holds(alloc, parties)?,
             waits: false,
         })?;
@@ -58,47 +63,61 @@ fn new_counts(
     Ok(counts)
 }
 
-/// What these references name doesn't wait.
-fn stop_waiting_named(counts: &mut Vec<HoldCounts>, references: &[(u64, u32)])
-    ensures { standings_of counts.new.items ≡ no_longer_waits (map (λ reference. reference.0) references.now) (standings_of counts.old.items) }
+/// One more reference to a group, which doesn't wait then.
+fn lead_to(counts: &mut Vec<HoldCounts>, number: u64)
+    requires { CanLead counts.old.items (number ∷ []) }
+    ensures { LeadsTo counts.old.items counts.new.items (number ∷ []) }
+{
+    set_waits(counts, number, false);
+    raise_reference(counts, number);
+}
+
+/// One more reference to each group that these name.
+fn lead_to_named(counts: &mut Vec<HoldCounts>, references: &[(u64, u32)])
+    requires { CanLead counts.old.items (flat_map (λ reference. reference.0 ∷ []) references.now) }
+    ensures { LeadsTo counts.old.items counts.new.items (flat_map (λ reference. reference.0 ∷ []) references.now) }
 {
     for reference in references {
-        set_waits(counts, reference.0, false);
+        lead_to(counts, reference.0);
     }
 }
 
-/// The trampoline of a member doesn't wait, where one is told.
-fn stop_waiting_told(counts: &mut Vec<HoldCounts>, told: Option<u64>)
-    ensures { standings_of counts.new.items ≡ no_longer_waits (option_to_list told) (standings_of counts.old.items) }
+/// One more reference to the trampoline of a member, where one is told.
+fn lead_to_told(counts: &mut Vec<HoldCounts>, told: Option<u64>)
+    requires { CanLead counts.old.items (option_to_list told) }
+    ensures { LeadsTo counts.old.items counts.new.items (option_to_list told) }
 {
     if let Some(number) = told {
-        set_waits(counts, number, false);
+        lead_to(counts, number);
     }
 }
 
-/// The trampolines that are told don't wait.
-fn stop_waiting_trampolines(counts: &mut Vec<HoldCounts>, trampolines: &[Option<u64>])
-    ensures { standings_of counts.new.items ≡ no_longer_waits (filter_map (λ told. told) trampolines.now) (standings_of counts.old.items) }
+/// One more reference to each trampoline that is told.
+fn lead_to_trampolines(counts: &mut Vec<HoldCounts>, trampolines: &[Option<u64>])
+    requires { CanLead counts.old.items (flat_map (λ told. option_to_list told) trampolines.now) }
+    ensures { LeadsTo counts.old.items counts.new.items (flat_map (λ told. option_to_list told) trampolines.now) }
 {
     for told in trampolines {
-        stop_waiting_told(counts, *told);
+        lead_to_told(counts, *told);
     }
 }
 
-/// What an entry's edges lead to doesn't wait.
-fn stop_waiting(counts: &mut Vec<HoldCounts>, entry: &RecGroupEntry)
-    ensures { standings_of counts.new.items ≡ no_longer_waits (edges (made_of entry.now)) (standings_of counts.old.items) }
+/// One more reference for each edge of a group.
+fn lead_to_edges(counts: &mut Vec<HoldCounts>, entry: &RecGroupEntry)
+    requires { CanLead counts.old.items (edges (made_of entry.now)) }
+    ensures { LeadsTo counts.old.items counts.new.items (edges (made_of entry.now)) }
 {
-    stop_waiting_named(counts, entry.outer.as_slice());
-    stop_waiting_trampolines(counts, entry.trampolines.as_slice());
+    lead_to_named(counts, entry.outer.as_slice());
+    lead_to_trampolines(counts, entry.trampolines.as_slice());
 }
 
-/// What new groups lead to doesn't wait.
-fn stop_waiting_each(counts: &mut Vec<HoldCounts>, added: &[RecGroupEntry])
-    ensures { standings_of counts.new.items ≡ none_waits (made_by added.now) (standings_of counts.old.items) }
+/// One more reference for each edge of the new groups. What they lead to doesn't wait.
+fn lead_to_each(counts: &mut Vec<HoldCounts>, added: &[RecGroupEntry])
+    requires { CanLead counts.old.items (flat_map (λ entry. edges (made_of entry)) added.now) }
+    ensures { LeadsTo counts.old.items counts.new.items (flat_map (λ entry. edges (made_of entry)) added.now) }
 {
     for entry in added {
-        stop_waiting(counts, entry);
+        lead_to_edges(counts, entry);
     }
 }
 
@@ -106,24 +125,30 @@ fn stop_waiting_each(counts: &mut Vec<HoldCounts>, added: &[RecGroupEntry])
 fn hold_each(counts: &mut Vec<HoldCounts>, party: u32, numbers: &[u64])
     requires parties { (count : CountsOf) → Among count counts.old.items → party < length count.holds.items }
     requires room { (number : ℕ) → held_at (standings_of counts.old.items) party number + times number numbers.now < 2 ^ 64 }
-    ensures { standings_of counts.new.items ≡ held_each party numbers.now (standings_of counts.old.items) }
+    requires total { (number : ℕ) → total_at counts.old.items number + times number numbers.now < 2 ^ 64 }
+    ensures standings { standings_of counts.new.items ≡ held_each party numbers.now (standings_of counts.old.items) }
+    ensures references { (n : ℕ) → references_at counts.new.items n ≡ references_at counts.old.items n }
+    ensures totals { AreTotals counts.old.items → AreTotals counts.new.items }
 {
     for number in numbers {
         gain(counts, party, *number);
     }
 }
 
-/// Room for the counts and marks of so many groups more.
+/// Room for the counts of so many groups more, and for all groups on the drop stack.
 fn reserve_counts(groups: &mut TypeRegistryInner, more: usize) -> Result<(), OutOfMemory>
+    requires { length groups.old.entries + more < 2 ^ 64 }
     ensures entries { groups.new.entries ≡ groups.old.entries }
     ensures counts { groups.new.counts.items ≡ groups.old.counts.items }
-    ensures marks { groups.new.marks.items ≡ groups.old.marks.items }
+    ensures stack { groups.new.stack.items ≡ groups.old.stack.items }
     ensures given { groups.new.given ≡ groups.old.given }
+    ensures capacity { vec_capacity groups.old.stack ≤ vec_capacity groups.new.stack }
     ensures counts_room { OnOk result (vec_len groups.new.counts + more ≤ vec_capacity groups.new.counts) }
-    ensures marks_room { OnOk result (vec_len groups.new.marks + more ≤ vec_capacity groups.new.marks) }
+    ensures stack_room { OnOk result (length groups.old.entries + more ≤ vec_capacity groups.new.stack) }
 {
+    let all = groups.entries.len() + more;
     groups.counts.reserve(more)?;
-    groups.marks.reserve(more)?;
+    groups.stack.reserve(all)?;
     Ok(())
 }
 
@@ -138,16 +163,6 @@ fn move_all<T: Drop>(items: &mut Vec<T>, mut more: Vec<T>)
     }
 }
 
-/// So many marks more, for which there is room.
-fn add_marks(marks: &mut Vec<bool>, more: usize)
-    requires { vec_len marks.old + more ≤ vec_capacity marks.old }
-    ensures { length marks.new.items ≡ length marks.old.items + more }
-{
-    for _ in 0..more {
-        marks.push_reserved(false);
-    }
-}
-
 /// The change: the new groups stand, and the party has its holds. Where there is no room for the groups, nothing changes.
 fn insert_entries(
     groups: &mut TypeRegistryInner,
@@ -157,13 +172,17 @@ fn insert_entries(
 ) -> Result<(Vec<u64>, Vec<VMSharedTypeIndex>), OutOfMemory>
     requires apart { AreApart (groups.old.entries ++ plan.added) }
     requires counts_room { vec_len groups.old.counts + vec_len rows ≤ vec_capacity groups.old.counts }
-    requires marks_room { vec_len groups.old.marks + length plan.added ≤ vec_capacity groups.old.marks }
+    requires fresh { (count : CountsOf) → Among count rows.items → IsFresh count }
+    requires leads { CanLead (groups.old.counts.items ++ rows.items) (flat_map (λ entry. edges (made_of entry)) plan.added) }
+    requires total { (number : ℕ) → total_at (groups.old.counts.items ++ rows.items) number + times number plan.numbers.items < 2 ^ 64 }
     requires calm { (count : CountsOf) → Among count rows.items → count.waits ≡ false }
     requires parties { (count : CountsOf) → Among count (groups.old.counts.items ++ rows.items) → party < length count.holds.items }
     requires room { (number : ℕ) → held_at (none_waits (made_by plan.added) (standings_of groups.old.counts.items) ++ standings_of rows.items) party number + times number plan.numbers.items < 2 ^ 64 }
     ensures entries { OnOk result (groups.new.entries ≡ groups.old.entries ++ plan.added) }
     ensures counts { OnOk result (standings_of groups.new.counts.items ≡ held_each party plan.numbers.items (none_waits (made_by plan.added) (standings_of groups.old.counts.items) ++ standings_of rows.items)) }
-    ensures marks { OnOk result (length groups.new.marks.items ≡ length groups.old.marks.items + length plan.added) }
+    ensures references { OnOk result ((n : ℕ) → references_at groups.new.counts.items n ≡ references_at (groups.old.counts.items ++ rows.items) n + references (made_by plan.added) n) }
+    ensures totals { OnOk result (AreTotals groups.old.counts.items → AreTotals groups.new.counts.items) }
+    ensures stack { OnOk result (groups.new.stack ≡ groups.old.stack) }
     ensures given { OnOk result (groups.new.given ≡ plan.given) }
     ensures numbers { IfOk result (λ held. held.0.items ≡ plan.numbers.items) }
     ensures map { IfOk result (λ held. held.1.items ≡ plan.map.items) }
@@ -176,11 +195,9 @@ fn insert_entries(
         map,
     } = plan;
     let before = groups.entries.len();
-    let more = added.len();
     groups.entries.append(added)?;
     move_all(&mut groups.counts, rows);
-    stop_waiting_each(&mut groups.counts, groups.entries.behind(before));
-    add_marks(&mut groups.marks, more);
+    lead_to_each(&mut groups.counts, groups.entries.behind(before));
     groups.given = given;
     hold_each(&mut groups.counts, party, numbers.as_slice());
     Ok((numbers, map))
@@ -262,6 +279,7 @@ pub(crate) fn hold_one(
 ) -> Result<(), Full>
     requires party { party < engine.now.limits.parties }
     requires counted { AreCounted engine.now (standings_of counts.old.items) }
+    requires totals { AreTotals counts.old.items }
     ensures ok { OnOk result ((entries : List EntryOf) (given : EverOf)
         → hold (registry_of engine.now entries given (standings_of counts.old.items)) party number
         ≡ Ok (registry_of engine.now entries given (standings_of counts.new.items))) }
@@ -270,6 +288,8 @@ pub(crate) fn hold_one(
     ensures full { (full : _) → result ≡ Err full → (entries : List EntryOf) (given : EverOf)
         → hold (registry_of engine.now entries given (standings_of counts.old.items)) party number ≡ Err full }
     ensures err { OnErr result (counts.new.items ≡ counts.old.items) }
+    ensures references { (n : ℕ) → references_at counts.new.items n ≡ references_at counts.old.items n }
+    ensures totals { AreTotals counts.new.items }
 {
     let bound = engine.limits().holds;
     let wanted = held_by(counts.as_slice(), party, number) + 1;

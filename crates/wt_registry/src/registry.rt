@@ -88,7 +88,7 @@ impl TypeRegistry {
             groups: TypeRegistryInner {
                 entries: RecGroupEntries::new(alloc),
                 counts: Vec::new(alloc),
-                marks: Vec::new(alloc),
+                stack: Vec::new(alloc),
                 given: EverRegistered {
                     numbers: 0,
                     types: 0,

@@ -16,6 +16,7 @@ use wt_tree::laws::{BothWays, antisymmetric};
 use wt_tree::supers::Types;
 
 mod hosts;
+mod removals;
 mod rules;
 mod supertypes;
 

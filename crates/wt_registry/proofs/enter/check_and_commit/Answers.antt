@@ -1,5 +1,5 @@
 -- what passes no limit has room, and keeps what is kept
-use Rattle.std.proofs.Common.{◌≡◌, ℕ, ◌+◌, ◌<◌, ◌≤◌, ◌^◌, ◌⊎◌, inl, inr, false, Option, List, ◌++◌, length, map, option_map, refl, sym, ap, subst, ◌∙◌, arith}
+use Rattle.std.proofs.Common.{◌≡◌, ℕ, ◌+◌, ◌<◌, ◌≤◌, ◌^◌, ◌⊎◌, inl, inr, false, Option, List, ◌++◌, length, map, Vec, Global, vec_capacity, option_map, refl, sym, ap, subst, ◌∙◌, arith}
 use Rattle.wt_env.specs.Among.{Among}
 use Rattle.wt_env.specs.Limits.{EngineParts}
 use Rattle.wt_env.proofs.lists.Mapped.{among_mapped}
@@ -7,7 +7,8 @@ use Rattle.wt_env.proofs.lists.Members.{among_either}
 use Rattle.wt_model.specs.declared.refusal.Full.{Full}
 use Rattle.wt_model.specs.declared.refusal.BuildRefusal.TheVariants as refusal
 use Rattle.wt_model.specs.Holds.{held_at, hold_each}
-use Rattle.wt_model.specs.Limits.{passed_limit}
+use Rattle.wt_model.specs.Limits.{references_of, passed_limit}
+use Rattle.wt_model.specs.Plan.{groups_of}
 use Rattle.wt_model.specs.Registration.{new_holds, stop_waiting_each}
 use Rattle.wt_model.specs.Changes.{HoldChanges}
 use Rattle.wt_model.specs.Registered.{Registry}
@@ -16,17 +17,25 @@ use Rattle.wt_model.proofs.plan.CarriedOut.{new_sized, new-calm}
 use Rattle.wt_model.proofs.plan.Gaining.{carried-changes}
 use Rattle.wt_model.proofs.plan.HoldsWanted.{held_at-with_new}
 use Rattle.wt_keys.specs.declared.entry.RecGroupEntry.{RecGroupEntry}
-use Rattle.wt_keys.specs.Entries.{made_by}
+use Rattle.wt_keys.specs.Entries.{made_of, made_by}
 use Rattle.wt_keys.specs.Filed.{AreApart}
 use Rattle.wt_keys.proofs.ApartKeys.{keys-apart}
 use Rattle.wt_plan.specs.declared.plan.Plan.{Plan as PlanFields}
 use Rattle.wt_plan.specs.Planned.{plan_of}
 use Rattle.wt_holds.specs.declared.hold_counts.HoldCounts.{HoldCounts}
 use Rattle.wt_holds.specs.declared.inner.TypeRegistryInner.{TypeRegistryInner}
-use Rattle.wt_holds.specs.Counts.{standing_of, standings_of}
+use Rattle.wt_holds.specs.Counts.{standing_of, standings_of, references_at, total_at, AreTotals}
 use Rattle.wt_holds.specs.Kept.{AreKept, registry_at, registry_of}
 use Rattle.wt_holds.proofs.Counted.{HavePlaces, has_place}
-use Rattle.wt_registry.proofs.KeptGroups.{kept-same, room-left, can-carry, carried-at, kept-carried}
+use Rattle.wt_registry.proofs.KeptGroups.{kept-same, groups_within, references_within, room-left, can-carry, carried-at, kept-carried}
+use Rattle.std.specs.List.{flat_map}
+use Rattle.std.proofs.lemmas.List.{length-append, length-map}
+use Rattle.wt_model.specs.Reach.{edges}
+use Rattle.wt_keys.proofs.AddedKeys.{names_older}
+use Rattle.wt_plan.proofs.Planning.{groups_of-joined}
+use Rattle.wt_holds.specs.References.{references}
+use Rattle.wt_registry.specs.LeadsTo.{CanLead}
+use Rattle.wt_registry.proofs.Tallied.{total-bounded, row-behind, can-lead}
 use Rattle.wt_registry.proofs.enter.check_and_commit.Goals as goal
 
 -- what was found, by the lists that were read, is the first limit that would be passed
@@ -76,12 +85,12 @@ returns-in-Some-clause-refused c =
 
 pub returns-in_err-reserve_counts-clause-kept : goal.returns-in_err-reserve_counts-clause-kept
 returns-in_err-reserve_counts-clause-kept c =
-    kept-same c.args.engine.now c.args.groups.now c.reserve_counts.new.groups c.requires.kept c.reserve_counts.ensures.entries c.reserve_counts.ensures.counts c.reserve_counts.ensures.marks c.reserve_counts.ensures.given
+    kept-same c.args.engine.now c.args.groups.now c.reserve_counts.new.groups c.requires.kept c.reserve_counts.ensures.entries c.reserve_counts.ensures.counts c.reserve_counts.ensures.stack c.reserve_counts.ensures.capacity c.reserve_counts.ensures.given
 
 pub returns-in_err-insert_entries-clause-kept : goal.returns-in_err-insert_entries-clause-kept
 returns-in_err-insert_entries-clause-kept c =
     subst (AreKept c.args.engine.now) (sym c.in_err-insert_entries.ensures.err)
-    (kept-same c.args.engine.now c.args.groups.now c.reserve_counts.new.groups c.requires.kept c.reserve_counts.ensures.entries c.reserve_counts.ensures.counts c.reserve_counts.ensures.marks c.reserve_counts.ensures.given)
+    (kept-same c.args.engine.now c.args.groups.now c.reserve_counts.new.groups c.requires.kept c.reserve_counts.ensures.entries c.reserve_counts.ensures.counts c.reserve_counts.ensures.stack c.reserve_counts.ensures.capacity c.reserve_counts.ensures.given)
 
 new_rows : (c : goal.After-insert_entries-arg-1) → standings_of c.in_ok-rows.rows.items ≡ map (new_holds c.args.engine.now) (made_by c.args.plan.added)
 new_rows c =
@@ -113,6 +122,47 @@ insert_entries-requires-clause-room c = λ number.
     let bound : c.limits.result.holds ≡ engine.limits.holds = ap (λ l. l.holds) c.limits.ensures.value in
     let greatest : c.limits.result.holds ≤ 2 ^ 30 = (c.limits.ensures.valid).holds in
     omega (arith, room, held, bound, greatest)
+
+pub reserve_counts-requires : goal.reserve_counts-requires
+reserve_counts-requires c =
+    let engine = c.args.engine.now in
+    let groups = c.args.groups.now in
+    let none = found_is engine groups c.as_slice.result.now c.as_slice-2.result.now c.args.plan c.args.party c.in_ok-found.found c.as_slice.ensures c.as_slice-2.ensures.value c.in_ok-found.ensures ∙ c.in_default.is in
+    let grouped = groups_within (registry_at engine groups) c.args.party (plan_of groups.entries c.args.plan) none in
+    let many : length (groups_of (plan_of groups.entries c.args.plan)) ≡ length groups.entries + length c.args.plan.added =
+    ap length (groups_of-joined groups.entries c.args.plan) ∙ length-map (groups.entries ++ c.args.plan.added) made_of ∙ length-append groups.entries c.args.plan.added in
+    let bound : c.limits.result.groups ≡ engine.limits.groups = ap (λ l. l.groups) c.limits.ensures.value in
+    let greatest : c.limits.result.groups ≤ 2 ^ 24 = (c.limits.ensures.valid).groups in
+    omega (arith, grouped, many, bound, greatest, c.len.ensures)
+
+pub insert_entries-requires-clause-leads : goal.insert_entries-requires-clause-leads
+insert_entries-requires-clause-leads c =
+    let engine = c.args.engine.now in
+    let groups = c.args.groups.now in
+    let none = found_is engine groups c.as_slice.result.now c.as_slice-2.result.now c.args.plan c.args.party c.in_ok-found.found c.as_slice.ensures c.as_slice-2.ensures.value c.in_ok-found.ensures ∙ c.in_default.is in
+    let referred = references_within (registry_at engine groups) c.args.party (plan_of groups.entries c.args.plan) none in
+    let joined = ap references_of (groups_of-joined groups.entries c.args.plan) in
+    let bound : c.limits.result.references ≡ engine.limits.references = ap (λ l. l.references) c.limits.ensures.value in
+    let greatest : c.limits.result.references ≤ 2 ^ 30 = (c.limits.ensures.valid).references in
+    subst (λ (counts : List HoldCounts). CanLead (counts ++ c.in_ok-rows.rows.items) (flat_map (λ (e : RecGroupEntry). edges (made_of e)) c.args.plan.added)) (sym c.reserve_counts.ensures.counts)
+    (can-lead engine groups.entries c.args.plan.added groups.counts.items c.in_ok-rows.rows.items (names_older (groups.entries ++ c.args.plan.added) c.args.plan.given.numbers c.requires.keys) c.requires.kept.holds.numbers
+    (new_rows c) c.in_ok-rows.ensures.fresh c.requires.kept.references (omega (arith, referred, joined, bound, greatest)))
+
+pub insert_entries-requires-clause-total : goal.insert_entries-requires-clause-total
+insert_entries-requires-clause-total c = λ number.
+    let engine = c.args.engine.now in
+    let groups = c.args.groups.now in
+    let none = found_is engine groups c.as_slice.result.now c.as_slice-2.result.now c.args.plan c.args.party c.in_ok-found.found c.as_slice.ensures c.as_slice-2.ensures.value c.in_ok-found.ensures ∙ c.in_default.is in
+    let room = room-left (registry_at engine groups) c.args.party (plan_of groups.entries c.args.plan) c.requires.kept.holds.counted none number in
+    let holds : c.limits.result.holds ≡ engine.limits.holds = ap (λ l. l.holds) c.limits.ensures.value in
+    let greatest : c.limits.result.holds ≤ 2 ^ 30 = (c.limits.ensures.valid).holds in
+    let parties : c.limits.result.parties ≡ engine.limits.parties = ap (λ l. l.parties) c.limits.ensures.value in
+    let most : c.limits.result.parties ≤ 1024 = (c.limits.ensures.valid).parties in
+    let bounded = total-bounded engine groups.counts.items number (omega (arith, parties, most)) (omega (arith, holds, greatest)) c.requires.kept.holds.counted c.requires.kept.totals in
+    let same =
+    row-behind (λ (x : HoldCounts). x.total) c.reserve_counts.new.groups.counts.items c.in_ok-rows.rows.items number (λ x at. (c.in_ok-rows.ensures.fresh x at).total)
+    ∙ ap (λ (counts : List HoldCounts). total_at counts number) c.reserve_counts.ensures.counts in
+    omega (arith, room, holds, greatest, bounded, same)
 
 pub returns-clause-accepted : goal.returns-clause-accepted
 returns-clause-accepted c =
@@ -149,7 +199,14 @@ returns-clause-kept c =
     kept-carried c.args.engine.now c.args.groups.now c.args.plan c.args.party c.requires.kept c.requires.party c.requires.keys c.requires.occurs (returns-clause-accepted c) c.insert_entries.new.groups
     entered c.in_ok-insert_entries.ensures.given stand
     c.requires.rules c.requires.shown c.requires.below
-    (c.in_ok-insert_entries.ensures.marks ∙ ap (λ ms. length ms + length c.args.plan.added) c.reserve_counts.ensures.marks)
+    (λ n. c.in_ok-insert_entries.ensures.references n
+    ∙ ap (λ t. t + references (made_by c.args.plan.added) n)
+    (row-behind (λ (x : HoldCounts). x.references) c.reserve_counts.new.groups.counts.items c.in_ok-rows.rows.items n (λ x at. (c.in_ok-rows.ensures.fresh x at).references)
+    ∙ ap (λ (counts : List HoldCounts). references_at counts n) c.reserve_counts.ensures.counts))
+    (c.in_ok-insert_entries.ensures.totals (subst AreTotals (sym c.reserve_counts.ensures.counts) c.requires.kept.totals))
+    (ap (λ (v : Vec ℕ Global). v.items) c.in_ok-insert_entries.ensures.stack ∙ (c.reserve_counts.ensures.stack ∙ c.requires.kept.stack))
+    (subst (λ (v : Vec ℕ Global). length c.args.groups.now.entries + length c.args.plan.added ≤ vec_capacity v) (sym c.in_ok-insert_entries.ensures.stack)
+    (subst (λ n. length c.args.groups.now.entries + n ≤ vec_capacity c.reserve_counts.new.groups.stack) c.len.ensures c.in_ok-reserve_counts.ensures.stack_room))
 
 pub returns-clause-changes : goal.returns-clause-changes
 returns-clause-changes c =

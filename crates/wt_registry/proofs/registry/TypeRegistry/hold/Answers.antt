@@ -1,5 +1,5 @@
 -- one more hold keeps what is kept
-use Rattle.std.proofs.Common.{◌<◌, sym, subst}
+use Rattle.std.proofs.Common.{◌<◌, sym, subst, ◌∙◌}
 use Rattle.wt_keys.specs.Entries.{made_by}
 use Rattle.wt_model.specs.Registered.{Registry}
 use Rattle.wt_keys.proofs.AddedKeys.{names_older}
@@ -17,7 +17,10 @@ kept c =
       shown = before.shown;
       rules = before.rules;
       within = before.within;
-      marks = before.marks;
+      references = λ n. c.hold_one.ensures.references n ∙ before.references n;
+      totals = c.hold_one.ensures.totals;
+      stack = before.stack;
+      room = before.room;
       below = before.below;
       holds =
           hold-keeps c.hold_one.result c.self.inside.engine groups.given.numbers (made_by groups.entries) groups.counts.items c.hold_one.new.counts.items c.args.party c.args.number
